@@ -1,0 +1,15 @@
+pub mod Cases
+pub mod Example
+pub mod Buckets
+pub mod Loan
+pub mod Deposits
+pub mod Magnitudes
+pub mod Limits
+pub mod Known
+pub mod Ranges
+pub mod Sound
+pub mod Walked
+pub mod Bytes
+pub mod Decoded
+pub mod Outcomes
+pub mod Rules

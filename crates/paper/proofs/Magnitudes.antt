@@ -1,0 +1,98 @@
+-- A record's magnitude in one scenario, kind by kind, as refusal 14 counts it: gross, whatever the side.
+use Prim.Native.Nat.{ℕ, zero, suc, _+_, _*_, _-_, _≤_, _<_}
+use mathlib.Core.Bool.{Bool, true, false}
+use mathlib.Core.List.{List}
+use mathlib.Core.Path.{_≡_, refl, ap, _∙_}
+use native.Mathlib.Omega.{arith}
+use lib.IntN.{ℤ, pos, negℤ, natAbs}
+use lib.ListN.{getD, length}
+use Rattle.laws.specs.Tests.{if_then_else_, _is_}
+use Rattle.laws.specs.Sums.{sum, sumOf}
+use Rattle.laws.proofs.Integers.{abs-neg}
+use Rattle.laws.proofs.Sums.{sum-ext, sum-add, sum-le, sum-nil, sum-only}
+use Rattle.laws.proofs.Totals.{sum-getD}
+use Rattle.paper.specs.Ladder.{buckets, Term, inMonths, bucketOf}
+use Rattle.paper.specs.Curve.{Curve}
+use Rattle.paper.specs.Records.{single, coupons, floating, deposit, loan, termDeposit, flows, option, curve}
+use Rattle.paper.specs.Behaviour.{depositFlow, prepaymentRate, withdrawalRate, paidAt, prepaidAt, interestAt, loanFlow, termDepositFlow}
+use Rattle.paper.specs.Flow.{sided, due, couponsDue, flowOf, flow, magnitude}
+use Rattle.paper.proofs.Buckets.{InBucket, in-bucket}
+use Rattle.paper.proofs.Deposits.{deposit-adds-up, term-deposit-adds-up}
+use Rattle.paper.proofs.Loan.{loan-returns, interest-at-most}
+use borrow.Author.Tests.{eq-eqb, ne-eqb}
+
+-- an amount is due once
+pub due-once : (term : Term) (amount : ℕ) → sum (due term amount) buckets ≡ amount
+unfolding due
+due-once term amount =
+    let i = in-bucket term in
+    let k : ℕ = bucketOf term - 1 in
+    let here : bucketOf term ≡ suc k = omega (arith, i .from) in
+    sum-only (due term amount) buckets k (omega (arith, i .to)) (λ j _ n. rw (ne-eqb (bucketOf term) (suc j) (λ e. n (omega arith)))) ∙ rw (eq-eqb (bucketOf term) (suc k) here)
+
+pub coupons-add-up : (period count coupon : ℕ) → sum (couponsDue period count coupon) buckets ≡ count * coupon
+unfolding couponsDue sum
+coupons-add-up period zero coupon = sum-nil buckets ∙ omega arith
+coupons-add-up period (suc n) coupon =
+    omega (
+      arith,
+      sum-add (couponsDue period n coupon) (due (inMonths (period * suc n)) coupon) buckets,
+      coupons-add-up period n coupon,
+      due-once (inMonths (period * suc n)) coupon,
+    )
+
+abs-sided : (side n : ℕ) → natAbs (sided side (pos n)) ≡ n
+unfolding sided
+abs-sided side n = by (side is 1)
+  where
+    by : (b : Bool) → natAbs (if b then pos n else negℤ (pos n)) ≡ n
+    by true = refl
+    by false = abs-neg (pos n)
+
+module _ (c i : ℕ) where
+  pub size-single : (side : ℕ) (term : Term) (amount : ℕ) → magnitude (flows c (single side term amount)) i ≡ amount
+  unfolding magnitude flow flowOf
+  size-single side term amount = sum-ext _ _ buckets (λ k _. abs-sided side (due term amount k)) ∙ due-once term amount
+
+  pub size-coupons : (side period count coupon principal : ℕ) → magnitude (flows c (coupons side period count coupon principal)) i ≡ count * coupon + principal
+  unfolding magnitude flow flowOf
+  size-coupons side period count coupon principal =
+      let last = inMonths (period * count) in
+      sum-ext _ _ buckets (λ k _. abs-sided side (couponsDue period count coupon k + due last principal k))
+      ∙ sum-add (couponsDue period count coupon) (due last principal) buckets
+      ∙ omega (arith, coupons-add-up period count coupon, due-once last principal)
+
+  pub size-floating : (side : ℕ) (reset : Term) (principal coupon : ℕ) → magnitude (flows c (floating side reset principal coupon)) i ≡ principal + coupon
+  unfolding magnitude flow flowOf
+  size-floating side reset principal coupon = sum-ext _ _ buckets (λ k _. abs-sided side (due reset (principal + coupon) k)) ∙ due-once reset (principal + coupon)
+
+  pub size-deposit : (category whole : ℕ) (core : List ℕ) → length core ≤ buckets → sumOf core ≤ whole → magnitude (flows c (deposit category whole core)) i ≡ whole
+  unfolding magnitude flow flowOf
+  size-deposit category whole core h l = sum-ext _ _ buckets (λ k _. abs-neg (pos (depositFlow whole core k))) ∙ deposit-adds-up whole core h l
+
+  pub size-term-deposit : (share : ℕ) (amounts : List ℕ) → length amounts ≤ buckets → magnitude (flows c (termDeposit share amounts)) i ≡ sumOf amounts
+  unfolding magnitude flow flowOf
+  size-term-deposit share amounts h =
+      sum-ext _ _ buckets (λ k _. abs-neg (pos (termDepositFlow (withdrawalRate share i) amounts k))) ∙ term-deposit-adds-up share i amounts h
+
+  -- that scenario's own flows; they are no more than whole that is scheduled
+  pub size-loan : (share : ℕ) (principals interests : List ℕ) → length principals ≤ buckets → length interests ≤ buckets
+      → magnitude (flows c (loan share principals interests)) i ≤ sumOf principals + sumOf interests
+  unfolding magnitude flow flowOf loanFlow
+  size-loan share principals interests h l =
+      let rate = prepaymentRate share i in
+      omega (
+        arith,
+        sum-add (λ k. paidAt rate principals k + prepaidAt rate principals k) (interestAt rate principals interests) buckets,
+        loan-returns share i principals h,
+        sum-le (interestAt rate principals interests) (λ k. getD interests k 0) buckets (λ k _. interest-at-most rate principals interests k),
+        sum-getD interests buckets l,
+      )
+
+  pub size-option : (side : ℕ) (values : List ℤ) → magnitude (option c side values) i ≡ 0
+  unfolding magnitude flow
+  size-option side values = sum-nil buckets
+
+  pub size-curve : (z : Curve) → magnitude (curve c z) i ≡ 0
+  unfolding magnitude flow
+  size-curve z = sum-nil buckets

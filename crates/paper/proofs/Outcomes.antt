@@ -1,0 +1,88 @@
+-- Books and what comes of them: every number at least once, with its place; one table with a single claim.
+use Prim.Native.Nat.{ℕ, _+_}
+use mathlib.Core.Path.{_≡_, refl}
+use mathlib.Core.List.{List, [], _∷_, _++_, map}
+use lib.ListN.{length, replicate}
+use Rattle.laws.specs.Tests.{all, first}
+use Rattle.laws.specs.Sums.{sum, total, totalℤ, some}
+use Rattle.laws.specs.Nearest.{nearest, nearestℤ}
+use Rattle.laws.specs.Series.{factorial}
+use Rattle.paper.specs.Ladder.{notAfter, upperEnds, bucketOf, midpoints}
+use Rattle.paper.specs.Refusals.{Checked, accepted, refused, numberOf, _>>=_, _>>_, unless}
+use Rattle.paper.specs.Series.{under, seriesTerm, over}
+use Rattle.paper.specs.Curve.{shortShare, rateChanges, shockedRate}
+use Rattle.paper.specs.Records.{Record, kinds, bodyLength, currencyOf, isCurve}
+use Rattle.paper.specs.Behaviour.{prepaymentMultipliers, withdrawalMultipliers, behaviouralRate, weighedCore, depositFlow, paid, prepaid, interest, outstandingAt, scheduledAt, paidAt, prepaidAt, interestAt, loanFlow, moved, termDepositFlow}
+use Rattle.paper.specs.Flow.{sided, due, couponsDue, flowOf, flow, adds, magnitude}
+use Rattle.paper.specs.Ledger.{ofCurrency, used, curved}
+use Rattle.paper.specs.TurnedDown.{unknownKind, cutShort, badCurrency, badSide, badMonths, badDays, badPeriod, badCount, badAmount, badOption, badShare, badCategory, coreAboveCap, coreTooLong, interestAlone, secondCurve, badRate, badShock, badShocked, scheduleOver, flowsOver, optionsOver, overLimit, lacksCurve, badCapital, bookTooLong, roomTooSmall}
+use Rattle.paper.specs.Fields.{signed, field, each}
+use Rattle.paper.specs.Decode.{decodeSingle, decodeCoupons, decodeFloating, decodeDeposit, decodeLoan, decodeTermDeposit, decodeOption, decodeCurve, decode}
+use Rattle.paper.specs.Book.{placed, admitted, recordAt, nextAt, walkFrom, walk, covered, outcome}
+use Rattle.paper.proofs.Bytes.{in4, below4, only, pair, singleBody, couponsBody, floatingBody, depositBody, loanBody, termDepositBody, optionBody, rates, curveBody}
+
+-- ends as: number 0 and the count of records kept, or the refusal's number and place
+pub record Ending : Type 0 where
+  pub number : ℕ
+  pub place : ℕ
+
+unfoldable pub endingOf : Checked (List Record) → Ending
+endingOf (accepted kept) = record { number = 0; place = length kept }
+endingOf (refused r place) = record { number = numberOf r; place = place }
+
+pub record Row : Type 0 where
+  pub gives : Ending
+  pub stated : Ending
+
+-- with rooms and capital that do not matter
+unfoldable pub ends : List ℕ → ℕ → ℕ → Row
+ends book number place = record { gives = endingOf (outcome book 1 58 1064); stated = record { number = number; place = place } }
+
+unfoldable pub roomed : List ℕ → ℕ → ℕ → ℕ → ℕ → ℕ → Row
+roomed book T reportRoom ledgerRoom number place =
+    record { gives = endingOf (outcome book T reportRoom ledgerRoom); stated = record { number = number; place = place } }
+
+abbrev curve : ℕ → List ℕ
+curve c = 8 ∷ curveBody c (in4 0) 400 0 0
+
+abbrev asset : ℕ → ℕ → List ℕ
+asset c amount = 1 ∷ singleBody c 1 12 0 amount
+
+abbrev debt : ℕ → ℕ → List ℕ
+debt c amount = 1 ∷ singleBody c 2 12 0 amount
+
+unfoldable pub books : List Row
+books =
+    roomed (0 ∷ []) 0 57 1064 18 0
+    ∷ roomed (0 ∷ []) 0 58 1063 18 0
+    ∷ roomed (replicate 65529 0) 0 58 1064 17 0
+    ∷ roomed (0 ∷ []) 0 58 1064 16 0
+    ∷ roomed [] 1000000000001 58 1064 16 0
+    ∷ roomed [] 1000000000000 58 1064 0 0
+    ∷ ends [] 0 0
+    ∷ ends (0 ∷ []) 1 0
+    ∷ ends (asset 1 5 ++ (9 ∷ [])) 1 10
+    ∷ ends (1 ∷ []) 2 0
+    ∷ ends (asset 1 5 ++ (5 ∷ replicate 154 255)) 2 10
+    ∷ ends (1 ∷ singleBody 9 1 12 0 5) 3 0
+    ∷ ends (asset 1 5 ++ (7 ∷ optionBody 1 3 (in4 0))) 4 10
+    ∷ ends (asset 1 5 ++ (2 ∷ couponsBody 1 1 6 101 1 1)) 5 10
+    ∷ ends (asset 1 5 ++ (3 ∷ floatingBody 1 1 12 0 1000000001 1)) 6 10
+    ∷ ends (6 ∷ termDepositBody 1 10001 (only 6 1)) 7 0
+    ∷ ends (4 ∷ depositBody 1 4 1 (only 6 1)) 8 0
+    ∷ ends (4 ∷ depositBody 1 1 1000 (only 2 901)) 9 0
+    ∷ ends (4 ∷ depositBody 1 1 1000 (pair 11 449 451)) 10 0
+    ∷ ends (5 ∷ loanBody 1 1000 (only 9 1000) (only 10 100)) 11 0
+    ∷ ends (curve 1 ++ asset 2 5 ++ curve 1) 12 94
+    ∷ ends (asset 1 5 ++ (8 ∷ curveBody 1 (below4 50000) 1 0 0)) 13 10
+    ∷ ends (asset 1 1000000000 ++ debt 2 1 ++ debt 1 1) 14 20
+    ∷ ends (asset 1 600000000 ++ debt 1 400000000 ++ asset 1 1) 14 20
+    ∷ ends (7 ∷ optionBody 1 1 (in4 1000000000) ++ (7 ∷ optionBody 1 2 (in4 1))) 14 27
+    ∷ ends (5 ∷ loanBody 1 1000 (only 9 1000000000) (only 9 1)) 14 0
+    ∷ ends (asset 7 1 ++ asset 3 1 ++ curve 7 ++ (7 ∷ optionBody 5 1 (in4 0))) 15 3
+    ∷ ends (asset 1 500000000 ++ debt 1 500000000 ++ curve 1) 0 3
+    ∷ []
+
+pub books-end : map (λ r. r .gives) books ≡ map (λ r. r .stated) books
+unfolding books ends roomed endingOf rates all first sum total totalℤ some nearest nearestℤ factorial notAfter upperEnds bucketOf midpoints numberOf _>>=_ _>>_ unless under seriesTerm over shortShare rateChanges shockedRate kinds bodyLength currencyOf isCurve prepaymentMultipliers withdrawalMultipliers behaviouralRate weighedCore depositFlow paid prepaid interest outstandingAt scheduledAt paidAt prepaidAt interestAt loanFlow moved termDepositFlow sided due couponsDue flowOf flow adds magnitude ofCurrency used curved unknownKind cutShort badCurrency badSide badMonths badDays badPeriod badCount badAmount badOption badShare badCategory coreAboveCap coreTooLong interestAlone secondCurve badRate badShock badShocked scheduleOver flowsOver optionsOver overLimit lacksCurve badCapital bookTooLong roomTooSmall signed field each decodeSingle decodeCoupons decodeFloating decodeDeposit decodeLoan decodeTermDeposit decodeOption decodeCurve decode placed admitted recordAt nextAt walkFrom walk covered outcome
+books-end = refl

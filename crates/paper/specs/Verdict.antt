@@ -1,0 +1,66 @@
+-- From changes to the verdict. The rules are over any changes by currency and scenario, the report over their list.
+use Prim.Native.Nat.{ℕ, suc, _+_, _*_, _-_, _/_, _%_}
+use mathlib.Core.List.{List, [], _∷_, _++_}
+use lib.IntN.{ℤ, pos, _+ℤ_, _-ℤ_, _*ℤ_}
+use lib.Signed.{ltZ, leZ}
+use lib.ListN.{getD}
+use Rattle.laws.specs.Tests.{if_then_else_, _is_, first}
+use Rattle.laws.specs.Integers.{up}
+use Rattle.laws.specs.Sums.{sum, greatest}
+use Rattle.laws.specs.Lists.{tabulate, tabulateFrom}
+use Rattle.paper.specs.declared.Verdict.{Verdict}
+use Rattle.paper.specs.declared.Verdict.the-variants.{Over, Within, Close}
+use Rattle.paper.specs.Records.{currencies}
+use Rattle.paper.specs.Ledger.{Totals}
+use Rattle.paper.specs.Change.{change, tolerance}
+
+-- over currencies, the first to the last
+abbrev pub overCurrencies : (ℕ → ℕ) → ℕ
+overCurrencies f = sum (λ c. f (suc c)) currencies
+
+-- a scenario's sum adds the positive changes over currencies
+unfoldable pub scenarioSum : (ℕ → ℕ → ℤ) → ℕ → ℕ
+scenarioSum changes i = overCurrencies (λ c. up (changes c i))
+
+-- the greatest of the six
+unfoldable pub measure : (ℕ → ℕ → ℤ) → ℕ
+measure changes = greatest (scenarioSum changes) 6
+
+-- the smallest scenario number that reaches it, 0 if the measure is 0
+unfoldable pub worst : (ℕ → ℕ → ℤ) → ℕ
+worst changes = if measure changes is 0 then 0 else first (λ i. scenarioSum changes i is measure changes) 1 6
+
+-- the greatest over scenarios of the tolerances added over currencies
+unfoldable pub totalTolerance : (ℕ → ℕ → ℕ) → ℕ
+totalTolerance tolerances = greatest (λ i. overCurrencies (λ c. tolerances c i)) 6
+
+-- against Tier 1 capital T, with the measure m and the total tolerance u: over if 100(m - u) > 15T, within if 100(m + u) <= 15T
+unfoldable pub verdict : ℕ → ℕ → ℕ → Verdict
+verdict m u T =
+    if ltZ (pos 15 *ℤ pos T) (pos 100 *ℤ (pos m -ℤ pos u)) then Over else
+    if leZ (pos 100 *ℤ (pos m +ℤ pos u)) (pos 15 *ℤ pos T) then Within else
+    Close
+
+unfoldable pub verdictNumber : Verdict → ℕ
+verdictNumber Over = 1
+verdictNumber Within = 2
+verdictNumber Close = 3
+
+-- ---- the report: the changes, currency by currency, 6 sums, measure, worst, total tolerance, verdict
+
+unfoldable pub changesOf : (ℕ → ℕ → ℤ) → List ℤ
+changesOf changes = tabulate (λ j. changes (suc (j / 6)) (suc (j % 6))) (6 * currencies)
+
+-- a change as it stands in such a list
+unfoldable pub listed : List ℤ → ℕ → ℕ → ℤ
+listed list c i = getD list (6 * (c - 1) + (i - 1)) (pos 0)
+
+unfoldable pub reportFrom : List ℤ → ℕ → ℕ → List ℤ
+reportFrom list u T =
+    let changes = listed list in
+    list
+    ++ tabulateFrom (λ i. pos (scenarioSum changes i)) 1 6
+    ++ (pos (measure changes) ∷ pos (worst changes) ∷ pos u ∷ pos (verdictNumber (verdict (measure changes) u T)) ∷ [])
+
+unfoldable pub reportOf : Totals → ℕ → List ℤ
+reportOf t T = reportFrom (changesOf (change t)) (totalTolerance (tolerance t)) T
