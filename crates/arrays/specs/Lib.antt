@@ -1,2 +1,3 @@
 pub mod Rooms
 pub mod Slots
+pub mod Kept

@@ -60,4 +60,5 @@ pub within-greatest : (t : ℕ) (f : ℕ → ℕ) (q : ℕ → Ratio) (n : ℕ) 
     → Within t (pos (greatest f n)) (greatestℚ q n)
 unfolding greatest greatestℚ
 within-greatest t f q zero h = within-wider (omega arith) (within-whole (pos 0))
-within-greatest t f q (suc n) h = within-greater (within-greatest t f q n (λ i p l. h i p (omega arith))) (h (suc n) (omega arith) (omega arith))
+within-greatest t f q (suc n) h =
+    within-greater (within-greatest t f q n (λ i p l. h i p (omega arith))) (h (suc n) (omega arith) (omega arith))

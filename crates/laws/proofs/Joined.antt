@@ -24,7 +24,8 @@ module _ {A : Type 0} (op : A → A → A) (d : A) where
   unfolding joined
   joined-at l f j h = tabulate-at (λ i. op (getD l i d) (f i)) (length l) j d h
 
-  pub joined-is : (l m : List A) (f : ℕ → A) → length m ≡ length l → ((j : ℕ) → j < length l → getD m j d ≡ op (getD l j d) (f j)) → m ≡ joined op d l f
+  pub joined-is : (l m : List A) (f : ℕ → A) → length m ≡ length l → ((j : ℕ) → j < length l → getD m j d ≡ op (getD l j d) (f j))
+      → m ≡ joined op d l f
   unfolding joined
   joined-is l m f e h = tabulate-is d m (λ j. op (getD l j d) (f j)) (length l) e h
 
@@ -37,13 +38,14 @@ module _ {A : Type 0} (op : A → A → A) (d : A) where
   unfolding joined
   joined-tabulate g f n = rw (tabulate-length g n) (tabulate-ext _ _ n (λ j o. ap (λ (x : A). op x (f j)) (tabulate-at g n j d o)))
 
-  pub joined-twice : ((x y z : A) → op (op x y) z ≡ op x (op y z)) → (l : List A) (f g : ℕ → A) → joined op d (joined op d l f) g ≡ joined op d l (λ j. op (f j) (g j))
+  pub joined-twice : ((x y z : A) → op (op x y) z ≡ op x (op y z)) → (l : List A) (f g : ℕ → A)
+      → joined op d (joined op d l f) g ≡ joined op d l (λ j. op (f j) (g j))
   joined-twice assoc l f g =
       joined-is l (joined op d (joined op d l f) g) (λ j. op (f j) (g j)) (joined-length (joined op d l f) g ∙ joined-length l f)
       (λ j o.
-        joined-at (joined op d l f) g j (omega (arith, joined-length l f))
-        ∙ ap (λ (x : A). op x (g j)) (joined-at l f j o)
-        ∙ assoc (getD l j d) (f j) (g j))
+      joined-at (joined op d l f) g j (omega (arith, joined-length l f))
+      ∙ ap (λ (x : A). op x (g j)) (joined-at l f j o)
+      ∙ assoc (getD l j d) (f j) (g j))
 
   module _ (idr : (x : A) → op x d ≡ x) where
     pub joined-none : (l : List A) (f : ℕ → A) → ((j : ℕ) → j < length l → f j ≡ d) → joined op d l f ≡ l

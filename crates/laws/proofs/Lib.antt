@@ -36,3 +36,5 @@ pub mod Sections
 pub mod Joined
 -- a list filled from the front
 pub mod Fill
+-- the binary digits of masks
+pub mod Digits

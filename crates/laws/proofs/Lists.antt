@@ -1,6 +1,6 @@
 -- Lists given by a rule of the index: their length, their elements, when two are one, and a store into one.
 use Prim.Native.Nat.{ℕ, zero, suc, _+_, _≤_, _<_}
-use mathlib.Core.List.{List, [], _∷_, _++_}
+use mathlib.Core.List.{List, _∷_, _++_}
 use mathlib.Core.Logic.{_≢_}
 use mathlib.Core.Path.{_≡_, refl, sym, ap, ap₂, _∙_}
 use native.Mathlib.Decide.{ℕ-discrete}
@@ -28,7 +28,8 @@ module _ {A : Type 0} where
   tabulateFrom-past f a n k d h = List·getD-eq-default (tabulateFrom f a n) d (omega (arith, tabulateFrom-length f a n))
 
   -- a list of that length with those elements is the rule's
-  pub tabulateFrom-is : (d : A) (l : List A) (f : ℕ → A) (a n : ℕ) → length l ≡ n → ((k : ℕ) → k < n → getD l k d ≡ f (a + k)) → l ≡ tabulateFrom f a n
+  pub tabulateFrom-is : (d : A) (l : List A) (f : ℕ → A) (a n : ℕ) → length l ≡ n → ((k : ℕ) → k < n → getD l k d ≡ f (a + k))
+      → l ≡ tabulateFrom f a n
   tabulateFrom-is d l f a n e h =
       ext-getD d l (tabulateFrom f a n) (e ∙ sym (tabulateFrom-length f a n))
       (λ k o. let m : k < n = omega arith in h k m ∙ sym (tabulateFrom-at f a n k d m))
@@ -72,7 +73,8 @@ module _ {A : Type 0} where
   tabulate-const v n = tabulateFrom-const v 0 n
 
   -- one place changed, by a store
-  pub tabulate-set : (d : A) (f g : ℕ → A) (n k : ℕ) (v : A) → k < n → g k ≡ v → ((j : ℕ) → j ≢ k → f j ≡ g j) → set (tabulate f n) k v ≡ tabulate g n
+  pub tabulate-set : (d : A) (f g : ℕ → A) (n k : ℕ) (v : A) → k < n → g k ≡ v → ((j : ℕ) → j ≢ k → f j ≡ g j)
+      → set (tabulate f n) k v ≡ tabulate g n
   tabulate-set d f g n k v h here same =
       tabulate-is d (set (tabulate f n) k v) g n (length-set (tabulate f n) k v ∙ tabulate-length f n) (λ j l. at j l (ℕ-discrete j k))
     where

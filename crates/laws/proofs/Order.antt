@@ -1,4 +1,5 @@
--- The order of integers, said by `up` and `down`; with the rulesets here omega reads equations, orders and tests of integers, and proves them.
+-- The order of integers and the tests of it, said by `up` and `down`. With the ruleset `ints` omega reads and proves equations,
+-- orders and tests of integers.
 use Prim.Native.Nat.{ℕ, suc, _+_, _≤_, _<_}
 use mathlib.Core.Bool.{true, false}
 use mathlib.Core.Logic.{_⊎_, inl, inr, ⊎-elim}

@@ -31,7 +31,14 @@ within-of {t} {z} {q} p h k =
     let x = z *ℤ pos (q .den) in
     record {
       proper = p;
-      near = omega (arith, abs-is (x -ℤ q .num), diff-up x (q .num), diff-down x (q .num), mul-up z (pos (q .den)), mul-down z (pos (q .den)));
+      near = omega (
+        arith,
+        abs-is (x -ℤ q .num),
+        diff-up x (q .num),
+        diff-down x (q .num),
+        mul-up z (pos (q .den)),
+        mul-down z (pos (q .den)),
+      );
     }
 
 pub within-nat : (t c n e : ℕ) → 0 < e → c * e ≤ n + t * e → n ≤ c * e + t * e → Within t (pos c) (record { num = pos n; den = e })
@@ -105,12 +112,13 @@ pub within-sum-nat : (t f : ℕ → ℕ) (q : ℕ → Ratio) (n : ℕ) → ((k :
     → Within (sum t n) (pos (sum f n)) (sumℚ q n)
 within-sum-nat t f q n h = rw (pos-sum f n) at (within-sum t (λ k. pos (f k)) q n h)
 
-pub sum-within : (t : ℕ) (flow factor : ℕ → ℤ) (exact : ℕ → Ratio) (n : ℕ) → ((i : ℕ) → i < n → Within t (factor i) (exact i))
-    → Within (sum (λ i. natAbs (flow i)) n * t) (sumℤ (λ i. flow i *ℤ factor i) n) (sumℚ (λ i. flow i *ℚ exact i) n)
+-- a weighted sum of numbers each within t is within t times the weights' magnitudes
+pub sum-within : (t : ℕ) (weight value : ℕ → ℤ) (exact : ℕ → Ratio) (n : ℕ) → ((i : ℕ) → i < n → Within t (value i) (exact i))
+    → Within (sum (λ i. natAbs (weight i)) n * t) (sumℤ (λ i. weight i *ℤ value i) n) (sumℚ (λ i. weight i *ℚ exact i) n)
 unfolding sum sumℤ sumℚ
-sum-within t flow factor exact zero h = rw zero-mul (within-whole (pos 0))
-sum-within t flow factor exact (suc n) h =
-    rw add-mul-nat (within-add (sum-within t flow factor exact n (λ i l. h i (omega arith))) (within-times (flow n) (h n (omega arith))))
+sum-within t weight value exact zero h = rw zero-mul (within-whole (pos 0))
+sum-within t weight value exact (suc n) h =
+    rw add-mul-nat (within-add (sum-within t weight value exact n (λ i l. h i (omega arith))) (within-times (weight n) (h n (omega arith))))
 
 pub sum-proper : (q : ℕ → Ratio) (n : ℕ) → ((i : ℕ) → i < n → 0 < q i .den) → 0 < sumℚ q n .den
 unfolding sumℚ

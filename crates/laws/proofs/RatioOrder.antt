@@ -76,9 +76,10 @@ module _ (n : ℕ) (q r : Ratio) where
 
 pub within-above : {t : ℕ} {z : ℤ} {q : Ratio} → Within t z q → (q ≤ℚ whole (z +ℤ pos t)) × (whole (z -ℤ pos t) ≤ℚ q)
 within-above {t} {z} {q} h =
-    let i = within-is h in
-    (≤ℚ-of q (whole (z +ℤ pos t)) (omega (arith, i, ap (λ (x : ℕ). x * q .den) (add-is z (pos t)))),
-     ≤ℚ-of (whole (z -ℤ pos t)) q (omega (arith, i, ap (λ (x : ℕ). x * q .den) (sub-is z (pos t)))))
+    let i = within-is h in (
+      ≤ℚ-of q (whole (z +ℤ pos t)) (omega (arith, i, ap (λ (x : ℕ). x * q .den) (add-is z (pos t)))),
+      ≤ℚ-of (whole (z -ℤ pos t)) q (omega (arith, i, ap (λ (x : ℕ). x * q .den) (sub-is z (pos t)))),
+    )
 
 -- k times what is within u of m: surely above a, and surely not
 module _ {u m : ℕ} {q : Ratio} (k a : ℕ) (h : Within u (pos m) q) where

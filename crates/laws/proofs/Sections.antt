@@ -50,7 +50,8 @@ module _ {A : Type 0} where
   splice-same a k l = put-same a k l
 
   -- a store in the section is a store in the whole
-  pub splice-set : (a k : ℕ) (l : List A) (j : ℕ) (v : A) → j < k → a + k ≤ length l → splice a k l (set (section a k l) j v) ≡ set l (a + j) v
+  pub splice-set : (a k : ℕ) (l : List A) (j : ℕ) (v : A) → j < k → a + k ≤ length l
+      → splice a k l (set (section a k l) j v) ≡ set l (a + j) v
   splice-set a k l j v h w = set-mid-at a k j l v (omega (arith, length-section a k l w))
 
   rest : (n k : ℕ) (r : List A) → n ≤ k → drop n (take k r) ++ drop k r ≡ drop n r
@@ -63,7 +64,8 @@ module _ {A : Type 0} where
   pub splice-splice : (a k b j : ℕ) (l part : List A) → b + j ≤ k → splice a k l (splice b j (section a k l) part) ≡ splice (a + b) j l part
   splice-splice a k b j l part h =
       let y = drop a l in
-      let after : drop j (drop b (take k y)) ++ drop k y ≡ drop j (drop b y) = rw (drop-drop j b (take k y), drop-drop j b y) (rest (b + j) k y h) in
+      let after : drop j (drop b (take k y)) ++ drop k y ≡ drop j (drop b y) =
+      rw (drop-drop j b (take k y), drop-drop j b y) (rest (b + j) k y h) in
       let front : take b (take k y) ≡ take b y = take-take b k y (omega arith) in
       rw (
         append-assoc (take b (take k y)) (part ++ drop j (drop b (take k y))) (drop k y),
@@ -81,15 +83,18 @@ module _ {A : Type 0} where
   splice-before a k l part i d h w =
       List·getD-append (take a l) (part ++ drop k (drop a l)) d i (omega (arith, length-take-le a l w)) ∙ getD-take a l i d h
 
-  past : (a k : ℕ) (l part : List A) (j : ℕ) (d : A) → a ≤ length l → getD (splice a k l part) (a + j) d ≡ getD (part ++ drop k (drop a l)) j d
+  past : (a k : ℕ) (l part : List A) (j : ℕ) (d : A) → a ≤ length l
+      → getD (splice a k l part) (a + j) d ≡ getD (part ++ drop k (drop a l)) j d
   past a k l part j d w =
       ap (λ (n : ℕ). getD (splice a k l part) (n + j) d) (sym (length-take-le a l w))
       ∙ getD-append-add (take a l) (part ++ drop k (drop a l)) j d
 
-  pub splice-in : (a k : ℕ) (l part : List A) (j : ℕ) (d : A) → j < length part → a ≤ length l → getD (splice a k l part) (a + j) d ≡ getD part j d
+  pub splice-in : (a k : ℕ) (l part : List A) (j : ℕ) (d : A) → j < length part → a ≤ length l
+      → getD (splice a k l part) (a + j) d ≡ getD part j d
   splice-in a k l part j d h w = past a k l part j d w ∙ List·getD-append part (drop k (drop a l)) d j h
 
-  pub splice-after : (a k : ℕ) (l part : List A) (j : ℕ) (d : A) → length part ≡ k → a ≤ length l → getD (splice a k l part) (a + (k + j)) d ≡ getD l (a + (k + j)) d
+  pub splice-after : (a k : ℕ) (l part : List A) (j : ℕ) (d : A) → length part ≡ k → a ≤ length l
+      → getD (splice a k l part) (a + (k + j)) d ≡ getD l (a + (k + j)) d
   splice-after a k l part j d e w =
       past a k l part (k + j) d w
       ∙ ap (λ (n : ℕ). getD (part ++ drop k (drop a l)) (n + j) d) (sym e)

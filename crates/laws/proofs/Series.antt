@@ -69,7 +69,8 @@ module _ (q m x : ℕ) where
   term-step≥ j h = omega (arith, step j h)
 
   term-step≤ : Step≤ q x 0 term
-  term-step≤ j = ⊎-elim (λ (h : j < m). omega (arith, step j h)) (λ (h : m ≤ j). rw (outside (suc j) (omega arith)) (omega arith)) (lt-or-ge j m)
+  term-step≤ j =
+      ⊎-elim (λ (h : j < m). omega (arith, step j h)) (λ (h : m ≤ j). rw (outside (suc j) (omega arith)) (omega arith)) (lt-or-ge j m)
 
 -- ---- the laws
 
@@ -80,7 +81,8 @@ exponential-above q m a b pos =
     (omega (
       arith,
       simp (term-sum, term-first) at
-          (sums-above q a b m pos (term q m a) (term q m b) (term q m (a + b)) (term-step≥ q m a) (term-step≥ q m b) (term-step≤ q m (a + b))),
+          (sums-above q a b m pos (term q m a) (term q m b) (term q m (a + b))
+          (term-step≥ q m a) (term-step≥ q m b) (term-step≤ q m (a + b))),
     ))
     (bottom-pos q m pos)
 
@@ -92,12 +94,14 @@ exponential-below q m a b l p pos h r =
     (omega (
       arith,
       simp (term-sum, term-first, term-last) at
-          (sums-below q a b l p m pos h r (term q m a) (term q m b) (term q m (a + b)) (term-step≤ q m a) (term-step≤ q m b) (term-step≥ q m (a + b))),
+          (sums-below q a b l p m pos h r (term q m a) (term q m b) (term q m (a + b))
+          (term-step≤ q m a) (term-step≤ q m b) (term-step≥ q m (a + b))),
     ))
     (bottom-pos q m pos)
 
 -- that error as a factor 1 + 1/k
-pub exponential-close : (q m a b l p k : ℕ) → 0 < q → a + b ≤ l * q → p + l ≤ suc m → l ≤ p → 0 < p → k * (l * q) ^ m ≤ exponentialBottom q m
+pub exponential-close : (q m a b l p k : ℕ) → 0 < q → a + b ≤ l * q → p + l ≤ suc m → l ≤ p → 0 < p
+    → k * (l * q) ^ m ≤ exponentialBottom q m
     → k * (exponentialTop q m a * exponentialTop q m b) ≤ suc k * (exponentialBottom q m * exponentialTop q m (a + b))
 exponential-close q m a b l p k pos h r o pos-p small =
     let last : k * (a + b) ^ m ≤ exponentialTop q m (a + b) =

@@ -104,10 +104,10 @@ sum-only f zero j h none = absurd (omega arith)
 sum-only f (suc n) j h none =
     ⊎-elim
     (λ (e : suc j ≡ suc n).
-      let same : n ≡ j = omega arith in
-      omega (arith, sum-none f n (λ k l. none k (omega arith) (omega arith)), ap f same))
+    let same : n ≡ j = omega arith in
+    omega (arith, sum-none f n (λ k l. none k (omega arith) (omega arith)), ap f same))
     (λ (l : suc j < suc n).
-      omega (arith, sum-only f n j (omega arith) (λ k m o. none k (omega arith) o), none n (omega arith) (omega arith)))
+    omega (arith, sum-only f n j (omega arith) (λ k m o. none k (omega arith) o), none n (omega arith) (omega arith)))
     (eq-or-lt-of-le h)
 
 pub sum-one : (a n j : ℕ) → j < n → sum (λ k. if k is j then a else 0) n ≡ a

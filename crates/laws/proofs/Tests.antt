@@ -62,7 +62,8 @@ pub all-ext : (p q : ℕ → Bool) (a n : ℕ) → ((i : ℕ) → a ≤ i → i 
 unfolding all
 all-ext p q a zero h = refl
 all-ext p q a (suc n) h =
-    ap₂ (λ (b c : Bool). if b then c else false) (h a (omega arith) (omega arith)) (all-ext p q (suc a) n (λ i l m. h i (omega arith) (omega arith)))
+    ap₂ (λ (b c : Bool). if b then c else false) (h a (omega arith) (omega arith))
+    (all-ext p q (suc a) n (λ i l m. h i (omega arith) (omega arith)))
 
 -- one number more, at the end
 pub all-more : (p : ℕ → Bool) (a n : ℕ) → all p a (suc n) ≡ all p a n && p (a + n)

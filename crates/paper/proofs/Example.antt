@@ -1,12 +1,14 @@
--- The worked example of 01, from its bytes: the records kept.
+-- The worked example of 01, from its bytes to its report, at the four values of T: an accepted book for each verdict.
 use Prim.Native.Nat.{ℕ}
-use mathlib.Core.Path.{_≡_, refl}
+use mathlib.Core.Bool.{false}
+use mathlib.Core.Path.{_≡_, refl, ap₂, _∙_}
 use mathlib.Core.List.{List, [], _∷_, _++_}
-use lib.IntN.{pos}
-use lib.ListN.{replicate}
+use lib.IntN.{ℤ, pos, negsuc}
+use lib.ListN.{length, replicate}
 use Rattle.laws.specs.Tests.{all, first}
-use Rattle.laws.specs.Sums.{sum, total, totalℤ, some}
-use Rattle.laws.specs.Nearest.{nearest, nearestℤ}
+use Rattle.laws.specs.Sums.{sum, sumℤ, total, totalℤ, some, greatest}
+use Rattle.laws.specs.Nearest.{nearest, nearestℤ, roundedUp}
+use Rattle.laws.specs.Lists.{tabulateFrom}
 use Rattle.laws.specs.Series.{factorial}
 use Rattle.paper.specs.Ladder.{Term, notAfter, upperEnds, bucketOf, midpoints}
 use Rattle.paper.specs.Refusals.{Checked, accepted, numberOf, _>>=_, _>>_, unless}
@@ -14,10 +16,14 @@ use Rattle.paper.specs.Series.{under, seriesTerm, over}
 use Rattle.paper.specs.Curve.{Curve, Shocks, shortShare, rateChanges, shockedRate}
 use Rattle.paper.specs.Records.{Record, flows, single, curve, kinds, bodyLength, currencyOf, isCurve}
 use Rattle.paper.specs.Flow.{sided, due, flowOf, flow, adds, gives, magnitude}
-use Rattle.paper.specs.Ledger.{ofCurrency, ofCurrencyℤ, used, curved}
+use Rattle.paper.specs.Ledger.{ofCurrency, ofCurrencyℤ, totals, used, curved}
 use Rattle.paper.specs.TurnedDown.{unknownKind, cutShort, badCurrency, badSide, badMonths, badDays, badAmount, secondCurve, badRate, badShock, badShocked, flowsOver, optionsOver, overLimit, lacksCurve, badCapital, bookTooLong, roomTooSmall}
 use Rattle.paper.specs.Fields.{signed, field, each}
 use Rattle.paper.specs.Decode.{decodeSingle, decodeCurve, decode}
+use Rattle.paper.specs.Factor.{digit}
+use Rattle.paper.specs.Change.{exponent, netSize, toleranceOf, tolerance}
+use Rattle.paper.specs.Verdict.{scenarioSum, measure, worst, totalTolerance, verdict, verdictNumber, changesOf, listed, reportFrom, reportOf}
+use Rattle.paper.proofs.Written.{table, written, afterWritten, factorWritten, valueBy, changeBy, report-written}
 use Rattle.paper.specs.Book.{placed, admitted, recordAt, nextAt, walkFrom, walk, covered, outcome}
 
 -- a curve for currency 1, all rates 0, shocks 400, 0, 0; one asset, (241,0), 1,000,000
@@ -30,6 +36,68 @@ kept =
     ∷ flows 1 (single 1 (record { months = 241; days = 0 }) 1000000)
     ∷ []
 
-pub example-kept : outcome example 4214126 58 1064 ≡ accepted kept
-unfolding example kept all first sum total totalℤ some nearest nearestℤ factorial notAfter upperEnds bucketOf midpoints _>>=_ _>>_ unless under seriesTerm over shortShare rateChanges shockedRate kinds bodyLength currencyOf isCurve sided due flowOf flow adds gives magnitude ofCurrency ofCurrencyℤ used curved unknownKind cutShort badCurrency badSide badMonths badDays badAmount secondCurve badRate badShock badShocked flowsOver optionsOver overLimit lacksCurve badCapital bookTooLong roomTooSmall signed field each decodeSingle decodeCurve decode placed admitted recordAt nextAt walkFrom walk covered outcome
-example-kept = refl
+-- the whole walk; capital enters by its own range alone
+example-walked : walk example ≡ accepted kept
+unfolding example kept all first sum total totalℤ some nearest nearestℤ factorial notAfter upperEnds bucketOf midpoints _>>=_ _>>_ unless under seriesTerm over shortShare rateChanges shockedRate kinds bodyLength currencyOf isCurve sided due flowOf flow adds gives magnitude ofCurrency ofCurrencyℤ used curved unknownKind cutShort badCurrency badSide badMonths badDays badAmount secondCurve badRate badShock badShocked flowsOver optionsOver overLimit signed field each decodeSingle decodeCurve decode placed admitted recordAt nextAt walkFrom walk
+example-walked = refl
+
+example-short : bookTooLong (length example) ≡ false
+unfolding example bookTooLong
+example-short = refl
+
+example-covered : covered kept ≡ accepted kept
+unfolding kept covered first unless lacksCurve used curved some currencyOf isCurve
+example-covered = refl
+
+taken : (T : ℕ) → badCapital T ≡ false → outcome example T 58 1064 ≡ accepted kept
+unfolding outcome roomTooSmall unless _>>=_ _>>_
+taken T ok = rw (example-short, ok, example-walked, example-covered)
+
+-- ---- its report
+
+unfoldable changes : List ℤ
+changes = pos 632121 ∷ negsuc 1718281 ∷ replicate 46 (pos 0)
+
+-- sums, measure, worst, total tolerance, verdict
+unfoldable pub stated : ℕ → List ℤ
+unfolding changes
+stated verdictIs =
+    changes
+    ++ (pos 632121 ∷ pos 0 ∷ pos 0 ∷ pos 0 ∷ pos 0 ∷ pos 0 ∷ [])
+    ++ (pos 632121 ∷ pos 1 ∷ pos 2 ∷ pos verdictIs ∷ [])
+
+changes-are : changesOf (changeBy factorWritten (totals kept)) ≡ changes
+unfolding changes kept sum sumℤ total totalℤ first nearest nearestℤ tabulateFrom factorial notAfter upperEnds bucketOf midpoints under seriesTerm over shortShare rateChanges shockedRate currencyOf sided due flowOf flow adds gives ofCurrency ofCurrencyℤ digit table written afterWritten factorWritten valueBy changeBy exponent changesOf
+changes-are = refl
+
+tolerance-is : totalTolerance (tolerance (totals kept)) ≡ 2
+unfolding kept sum totalℤ first greatest roundedUp notAfter upperEnds bucketOf currencyOf sided due flowOf flow ofCurrencyℤ netSize toleranceOf tolerance totalTolerance
+tolerance-is = refl
+
+report-is : (T : ℕ) → reportOf (totals kept) T ≡ stated (verdictNumber (verdict 632121 2 T))
+unfolding stated changes sum greatest first tabulateFrom scenarioSum measure worst listed reportFrom
+report-is T = report-written (totals kept) T ∙ ap₂ (λ (l : List ℤ) (u : ℕ). reportFrom l u T) changes-are tolerance-is
+
+-- the book is accepted at T, and its report is as stated, with the verdict's number
+pub record Reports (T number : ℕ) : Type 0 where
+  pub accepts : outcome example T 58 1064 ≡ accepted kept
+  pub report : reportOf (totals kept) T ≡ stated number
+
+reports : (T : ℕ) → badCapital T ≡ false → Reports T (verdictNumber (verdict 632121 2 T))
+reports T ok = record { accepts = taken T ok; report = report-is T }
+
+pub over-reported : Reports 4214126 1
+unfolding badCapital verdict verdictNumber
+over-reported = reports 4214126 refl
+
+pub close-reported : Reports 4214127 3
+unfolding badCapital verdict verdictNumber
+close-reported = reports 4214127 refl
+
+pub still-close-reported : Reports 4214153 3
+unfolding badCapital verdict verdictNumber
+still-close-reported = reports 4214153 refl
+
+pub within-reported : Reports 4214154 2
+unfolding badCapital verdict verdictNumber
+within-reported = reports 4214154 refl

@@ -1,15 +1,34 @@
+-- the numbers to hold to, and worked cases, by computation
 pub mod Cases
-pub mod Example
+pub mod Rules
+pub mod Bytes
+pub mod Decoded
+pub mod Outcomes
+-- ladder, behaviour, magnitudes, and what refusal 14 leaves
 pub mod Buckets
 pub mod Loan
 pub mod Deposits
 pub mod Magnitudes
 pub mod Limits
+-- what is known of accepted fields, records and books
 pub mod Known
 pub mod Ranges
 pub mod Sound
 pub mod Walked
-pub mod Bytes
-pub mod Decoded
-pub mod Outcomes
-pub mod Rules
+-- demand 3: the series, the factor, a change, the measure, the verdict, each against the exact one
+pub mod Terms
+pub mod SeriesLaws
+pub mod FactorStep
+pub mod FactorClose
+pub mod ChangeClose
+pub mod MeasureClose
+pub mod VerdictSound
+-- the report's list against the definitions by currency and scenario
+pub mod Listed
+pub mod Report
+pub mod Unused
+-- demand 3 for every accepted book
+pub mod Accepted
+-- the table of tables written out, by which a report is cheap to compute
+pub mod Written
+pub mod Example

@@ -16,3 +16,4 @@ pub mod Change
 pub mod Verdict
 pub mod Book
 pub mod Exact
+pub mod Demand3

@@ -51,9 +51,12 @@ verdictNumber Close = 3
 unfoldable pub changesOf : (ℕ → ℕ → ℤ) → List ℤ
 changesOf changes = tabulate (λ j. changes (suc (j / 6)) (suc (j % 6))) (6 * currencies)
 
+abbrev pub changeAt : ℕ → ℕ → ℕ
+changeAt c i = 6 * (c - 1) + (i - 1)
+
 -- a change as it stands in such a list
 unfoldable pub listed : List ℤ → ℕ → ℕ → ℤ
-listed list c i = getD list (6 * (c - 1) + (i - 1)) (pos 0)
+listed list c i = getD list (changeAt c i) (pos 0)
 
 unfoldable pub reportFrom : List ℤ → ℕ → ℕ → List ℤ
 reportFrom list u T =
@@ -64,3 +67,19 @@ reportFrom list u T =
 
 unfoldable pub reportOf : Totals → ℕ → List ℤ
 reportOf t T = reportFrom (changesOf (change t)) (totalTolerance (tolerance t)) T
+
+-- where each number stands in it
+abbrev pub sumAt : ℕ → ℕ
+sumAt i = 6 * currencies + (i - 1)
+
+abbrev pub measureAt : ℕ
+measureAt = 6 * currencies + 6
+
+abbrev pub worstAt : ℕ
+worstAt = 6 * currencies + 7
+
+abbrev pub toleranceAt : ℕ
+toleranceAt = 6 * currencies + 8
+
+abbrev pub verdictAt : ℕ
+verdictAt = 6 * currencies + 9

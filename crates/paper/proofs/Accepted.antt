@@ -1,0 +1,61 @@
+-- Demand 3 for every accepted book: its report is true within its tolerances, and its verdict is sound.
+use Prim.Native.Nat.{ℕ}
+use mathlib.Core.List.{List}
+use mathlib.Core.Path.{_≡_, refl, sym, ap, _∙_}
+use native.Mathlib.Omega.{arith}
+use lib.IntN.{pos}
+use Rattle.laws.specs.Tests.{if_then_else_, _is_}
+use Rattle.paper.specs.declared.Verdict.{Verdict}
+use Rattle.paper.specs.declared.Verdict.the-variants.{Over, Within as WithinLine, Close}
+use Rattle.paper.specs.Refusals.{accepted}
+use Rattle.paper.specs.Records.{Record}
+use Rattle.paper.specs.Ledger.{Totals, totals}
+use Rattle.paper.specs.Change.{change, tolerance}
+use Rattle.paper.specs.Verdict.{measure, totalTolerance, verdict, verdictNumber, reportOf}
+use Rattle.paper.specs.Book.{outcome}
+use Rattle.paper.specs.Demand3.{Demand3}
+use Rattle.paper.proofs.Known.{known-of}
+use Rattle.paper.proofs.Walked.{Good, outcome-good}
+use Rattle.paper.proofs.ChangeClose.{Rated, exponent-ranged, change-close}
+use Rattle.paper.proofs.MeasureClose.{sum-close, measure-close}
+use Rattle.paper.proofs.VerdictSound.{close-reaches, over-sound, within-sound}
+use Rattle.paper.proofs.Report.{change-reported, sum-reported, measure-reported, tolerance-reported, verdict-reported}
+
+pub rated : {kept : List Record} → Good kept → Rated (totals kept)
+rated {kept} g = record { ranged = λ c i k l m. let r = g .ranged c i k l m in exponent-ranged (totals kept .rate c i k) k m (r .low) (r .high) }
+
+-- no two verdicts have one number
+verdictOf : ℕ → Verdict
+verdictOf n = if n is 1 then Over else if n is 2 then WithinLine else Close
+
+verdict-back : (v : Verdict) → verdictOf (verdictNumber v) ≡ v
+unfolding verdictOf verdictNumber
+verdict-back Over = refl
+verdict-back WithinLine = refl
+verdict-back Close = refl
+
+pub one-verdict : (v w : Verdict) → pos (verdictNumber v) ≡ pos (verdictNumber w) → v ≡ w
+one-verdict v w e = let n : verdictNumber v ≡ verdictNumber w = cc in sym (verdict-back v) ∙ ap verdictOf n ∙ verdict-back w
+
+module _ (t : Totals) (rates : Rated t) (T : ℕ) where
+  pub report-true : Demand3 t T (reportOf t T)
+  unfolding reportOf verdictNumber
+  report-true =
+      let u : ℕ = totalTolerance (tolerance t) in
+      let m : ℕ = measure (change t) in
+      let said = verdict-reported (change t) u T in
+      record {
+        changes = λ c i l h p n. rw (change-reported (change t) u T c i l h p n) (change-close t rates c i (omega arith));
+        sums = λ i p n. rw (sum-reported (change t) u T i p n) (sum-close t rates i (omega arith));
+        measure = rw (measure-reported (change t) u T) (measure-close t rates);
+        stated = tolerance-reported (change t) u T;
+        over = λ e. over-sound t rates T (one-verdict (verdict m u T) Over (sym said ∙ e));
+        within = λ e. within-sound t rates T (one-verdict (verdict m u T) WithinLine (sym said ∙ e));
+        close = rw (measure-reported (change t) u T, tolerance-reported (change t) u T)
+            (λ e. close-reaches m u T .0 (one-verdict (verdict m u T) Close (sym said ∙ e)),
+            λ h. said ∙ ap (λ (v : Verdict). pos (verdictNumber v)) (close-reaches m u T .1 h));
+      }
+
+pub accepted-true : (book : List ℕ) (T reportRoom ledgerRoom : ℕ) (kept : List Record) → outcome book T reportRoom ledgerRoom ≡ accepted kept
+    → Demand3 (totals kept) T (reportOf (totals kept) T)
+accepted-true book T reportRoom ledgerRoom kept e = report-true (totals kept) (rated (known-of (outcome-good book T reportRoom ledgerRoom) kept e)) T

@@ -1,0 +1,83 @@
+-- The report read number by number.
+use Prim.Native.Nat.{ℕ, zero, suc, _+_, _*_, _-_, _≤_, _<_}
+use mathlib.Core.List.{List, [], _∷_, _++_, append-assoc}
+use mathlib.Core.Path.{_≡_, refl, sym, ap, _∙_}
+use native.Mathlib.Omega.{arith}
+use lib.IntN.{ℤ, pos}
+use lib.ListN.{length, getD, List·getD-append}
+use lib.Seq.{getD-append-add}
+use Rattle.laws.specs.Lists.{tabulateFrom}
+use Rattle.laws.proofs.Lists.{tabulate-length, tabulateFrom-length, tabulateFrom-at}
+use Rattle.paper.specs.Records.{currencies}
+use Rattle.paper.specs.Ledger.{Totals}
+use Rattle.paper.specs.Change.{change, tolerance}
+use Rattle.paper.specs.Verdict.{scenarioSum, measure, worst, totalTolerance, verdict, verdictNumber, changesOf, changeAt, listed, reportFrom, reportOf, sumAt, measureAt, worstAt, toleranceAt, verdictAt}
+use Rattle.paper.proofs.Listed.{change-listed, sum-listed, measure-listed, worst-listed}
+
+-- a number past the first of two lists
+past : (xs ys : List ℤ) (n j : ℕ) → length xs ≡ n → getD (xs ++ ys) (n + j) (pos 0) ≡ getD ys j (pos 0)
+past xs ys n j e = ap (λ (m : ℕ). getD (xs ++ ys) (m + j) (pos 0)) (sym e) ∙ getD-append-add xs ys j (pos 0)
+
+-- the three pieces of the report: the changes, the sums, the last four
+module _ (changes : ℕ → ℕ → ℤ) (u T : ℕ) where
+  abbrev pub report : List ℤ
+  report = reportFrom (changesOf changes) u T
+
+  sumOf' : ℕ → ℤ
+  sumOf' i = pos (scenarioSum (listed (changesOf changes)) i)
+
+  sums : List ℤ
+  sums = tabulateFrom sumOf' 1 6
+
+  lastFour : List ℤ
+  lastFour =
+      let measured = measure (listed (changesOf changes)) in
+      pos measured ∷ pos (worst (listed (changesOf changes))) ∷ pos u ∷ pos (verdictNumber (verdict measured u T)) ∷ []
+
+  pieces : report ≡ changesOf changes ++ (sums ++ lastFour)
+  unfolding reportFrom sums sumOf' lastFour
+  pieces = append-assoc (changesOf changes) sums lastFour
+
+  long : length (changesOf changes) ≡ 6 * currencies
+  unfolding changesOf
+  long = tabulate-length _ (6 * currencies)
+
+  six : length sums ≡ 6
+  unfolding sums
+  six = tabulateFrom-length sumOf' 1 6
+
+  pub change-reported : (c i : ℕ) → 1 ≤ c → c ≤ currencies → 1 ≤ i → i ≤ 6 → getD report (changeAt c i) (pos 0) ≡ changes c i
+  unfolding listed
+  change-reported c i l h p m =
+      rw pieces
+      (List·getD-append (changesOf changes) (sums ++ lastFour) (pos 0) (changeAt c i) (omega (arith, long)) ∙ change-listed changes c i l h p m)
+
+  pub sum-reported : (i : ℕ) → 1 ≤ i → i ≤ 6 → getD report (sumAt i) (pos 0) ≡ pos (scenarioSum changes i)
+  unfolding sums sumOf'
+  sum-reported i p m =
+      let same : 1 + (i - 1) ≡ i = omega arith in
+      rw pieces
+      (past (changesOf changes) (sums ++ lastFour) (6 * currencies) (i - 1) long
+      ∙ List·getD-append sums lastFour (pos 0) (i - 1) (omega (arith, six))
+      ∙ tabulateFrom-at sumOf' 1 6 (i - 1) (pos 0) (omega arith)
+      ∙ ap sumOf' same
+      ∙ ap pos (sum-listed changes i p m))
+
+  last : (j : ℕ) → getD report (6 * currencies + (6 + j)) (pos 0)
+      ≡ getD (pos (measure changes) ∷ pos (worst changes) ∷ pos u ∷ pos (verdictNumber (verdict (measure changes) u T)) ∷ []) j (pos 0)
+  unfolding lastFour
+  last j =
+      rw (pieces, ← measure-listed changes, ← worst-listed changes)
+      (past (changesOf changes) (sums ++ lastFour) (6 * currencies) (6 + j) long ∙ past sums lastFour 6 j six)
+
+  pub measure-reported : getD report measureAt (pos 0) ≡ pos (measure changes)
+  measure-reported = last 0
+
+  pub worst-reported : getD report worstAt (pos 0) ≡ pos (worst changes)
+  worst-reported = last 1
+
+  pub tolerance-reported : getD report toleranceAt (pos 0) ≡ pos u
+  tolerance-reported = last 2
+
+  pub verdict-reported : getD report verdictAt (pos 0) ≡ pos (verdictNumber (verdict (measure changes) u T))
+  verdict-reported = last 3
