@@ -1,0 +1,4 @@
+pub mod Holding
+pub mod Sets
+pub mod Missing
+pub mod Walking

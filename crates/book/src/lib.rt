@@ -1,0 +1,3 @@
+// The book: the walk over its records, and the entry function (01, "Records", "From flows to verdict", "Turned down").
+pub mod masks;
+pub mod step;
