@@ -1,4 +1,8 @@
+-- the arrays and masks of the records kept, and the walk's invariant
 pub mod Holding
 pub mod Sets
 pub mod Missing
 pub mod Walking
+-- what `assess` promises
+pub mod Truth
+pub mod Unique

@@ -1,3 +1,4 @@
 // The book: the walk over its records, and the entry function (01, "Records", "From flows to verdict", "Turned down").
+pub mod assess;
 pub mod masks;
 pub mod step;

@@ -11,6 +11,7 @@ pub mod Deposits
 pub mod Magnitudes
 pub mod Limits
 -- what is known of accepted fields, records and books
+pub mod Numbers
 pub mod Known
 pub mod Ranges
 pub mod Sound

@@ -1,0 +1,49 @@
+-- Demand 3 of what the report's room holds: cells beyond the report do not matter.
+use Prim.Native.Nat.{ℕ, suc, _+_, _*_, _-_, _≤_, _<_}
+use mathlib.Core.List.{List, _++_}
+use mathlib.Core.Path.{_≡_, refl, sym, ap, _∙_}
+use native.Mathlib.Omega.{arith}
+use lib.IntN.{ℤ, pos}
+use lib.ListN.{length, getD, drop, List·getD-append, length-append}
+use Rattle.laws.specs.Lists.{tabulateFrom}
+use Rattle.laws.proofs.Lists.{tabulateFrom-length}
+use Rattle.paper.specs.Refusals.{Checked, accepted}
+use Rattle.paper.specs.Records.{Record, currencies}
+use Rattle.paper.specs.Ledger.{Totals, totals, figures}
+use Rattle.paper.specs.Change.{change, tolerance}
+use Rattle.paper.specs.Verdict.{changesOf, reportFrom, reportOf}
+use Rattle.paper.specs.Book.{outcome, reportAfter}
+use Rattle.paper.specs.Demand3.{figure, Demand3}
+use Rattle.paper.proofs.Accepted.{accepted-true}
+use Rattle.book.specs.declared.assess.Assessed.{Assessed}
+use Rattle.book.specs.Assessed.{Assesses, Truthful}
+
+-- ---- a report's length
+
+pub report-long : (t : Totals) (T : ℕ) → length (reportOf t T) ≡ figures
+unfolding reportOf reportFrom changesOf
+report-long t T = simp (length-append, tabulateFrom-length)
+
+-- ---- a report whose figures are those of another is as true
+
+same-figures : {t : Totals} {T : ℕ} {report other : List ℤ} → ((j : ℕ) → j < figures → figure other j ≡ figure report j) → Demand3 t T report → Demand3 t T other
+same-figures {t} {T} {report} {other} e d = record {
+  changes = λ c i l h p n. rw (e (6 * (c - 1) + (i - 1)) (omega arith)) (d .changes c i l h p n);
+  sums = λ i p n. rw (e (6 * currencies + (i - 1)) (omega arith)) (d .sums i p n);
+  measure = rw (e (6 * currencies + 6) (omega arith)) (d .measure);
+  stated = e (6 * currencies + 8) (omega arith) ∙ d .stated;
+  over = λ v. d .over (sym (e (6 * currencies + 9) (omega arith)) ∙ v);
+  within = λ v. d .within (sym (e (6 * currencies + 9) (omega arith)) ∙ v);
+  close = rw (e (6 * currencies + 6) (omega arith), e (6 * currencies + 8) (omega arith), e (6 * currencies + 9) (omega arith)) (d .close);
+}
+
+pub truthful : {book : List ℕ} {T : ℕ} {report ledger report' ledger' : List ℤ} {a : Assessed} → Assesses book T report ledger a report' ledger' → Truthful book T report ledger report'
+unfolding reportAfter
+truthful {book} {T} {report} {ledger} {report'} p = record {
+  holds = λ kept e.
+      let t : Totals = totals kept in
+      let is : report' ≡ reportOf t T ++ drop figures report = p .report-is ∙ ap (λ (o : Checked (List Record)). reportAfter o T report) e in
+      same-figures
+      (λ j l. ap (λ (r : List ℤ). figure r j) is ∙ List·getD-append (reportOf t T) (drop figures report) (pos 0) j (omega (arith, report-long t T)))
+      (accepted-true book T (length report) (length ledger) kept e);
+}

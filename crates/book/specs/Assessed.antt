@@ -1,0 +1,36 @@
+-- What `assess` promises, for all inputs: the answer, and what the report and the ledger then hold, refusals too.
+use Prim.Native.Nat.{ℕ}
+use mathlib.Core.List.{List}
+use mathlib.Core.Path.{_≡_}
+use lib.IntN.{ℤ}
+use lib.ListN.{length}
+use Rattle.paper.specs.Refusals.{numberOf, Checked, accepted, refused}
+use Rattle.paper.specs.Records.{Record}
+use Rattle.paper.specs.Ledger.{totals}
+use Rattle.paper.specs.Book.{outcome, reportAfter, ledgerAfter}
+use Rattle.paper.specs.Demand3.{Demand3}
+use Rattle.book.specs.declared.assess.Assessed.{Assessed}
+use Rattle.book.specs.declared.assess.Assessed.the-variants.{Reported, Refused}
+
+-- what a caller is told: the report is there, or a number and a place
+pub data Answer : Type 0 where
+  reported : Answer
+  turnedDown : (number place : ℕ) → Answer
+
+unfoldable pub told : Assessed → Answer
+told Reported = reported
+told (Refused r place) = turnedDown (numberOf r) place
+
+unfoldable pub answerOf : Checked (List Record) → Answer
+answerOf (accepted kept) = reported
+answerOf (refused r place) = turnedDown (numberOf r) place
+
+-- demands 1 and 2
+pub record Assesses (book : List ℕ) (T : ℕ) (report ledger : List ℤ) (answer : Assessed) (report' ledger' : List ℤ) : Type 0 where
+  pub says : told answer ≡ answerOf (outcome book T (length report) (length ledger))
+  pub report-is : report' ≡ reportAfter (outcome book T (length report) (length ledger)) T report
+  pub ledger-is : ledger' ≡ ledgerAfter (outcome book T (length report) (length ledger)) ledger
+
+-- demand 3: what is reported of an accepted book is true within its tolerances
+pub record Truthful (book : List ℕ) (T : ℕ) (report ledger report' : List ℤ) : Type 0 where
+  pub holds : (kept : List Record) → outcome book T (length report) (length ledger) ≡ accepted kept → Demand3 (totals kept) T report'
