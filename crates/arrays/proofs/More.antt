@@ -52,7 +52,7 @@ module _ (kept : List Record) (r : Record) (l : 1 ≤ currencyOf r) (h : currenc
   cells-more f =
       ledger-by _
       ∙ part-more _+ℤ_ (pos 0) +ℤ-idr sectionSize (currencyOf r) _ _ (λ j. f r (j / buckets) (j % buckets)) (omega arith) l h
-          (λ b j _. ofCurrencyℤ-more b kept r (λ x. f x (j / buckets) (j % buckets)))
+      (λ b j _. ofCurrencyℤ-more b kept r (λ x. f x (j / buckets) (j % buckets)))
       ∙ ap (inPart sectionSize (currencyOf r) (λ part. plusℤ part (λ j. f r (j / buckets) (j % buckets)))) (sym (ledger-by (λ c i k. ofCurrencyℤ (λ x. f x i k) c kept)))
 
   pub arrays-more : arraysOf (kept ++ (r ∷ [])) ≡ withRecord r (arraysOf kept)

@@ -45,7 +45,7 @@ module _ (kept : List Record) (good : Good kept) where
       let at : ℕ → ℤ = λ j. totals kept .rate (suc (j / sectionSize)) (j % sectionSize / buckets) (j % buckets) in
       section-tabulate at cells a sectionSize (omega arith)
       ∙ tabulateFrom-ext at (λ j. pos 0) a sectionSize
-          (λ j m n. let here : suc (j / sectionSize) ≡ c = omega arith in good .bare (suc (j / sectionSize)) (j % sectionSize / buckets) (j % buckets) (ap (curved kept) here ∙ e))
+      (λ j m n. let here : suc (j / sectionSize) ≡ c = omega arith in good .bare (suc (j / sectionSize)) (j % sectionSize / buckets) (j % buckets) (ap (curved kept) here ∙ e))
       ∙ tabulateFrom-const (pos 0) a sectionSize
 
   pub holding : (m : Masks) → MaskOf (m .used) (used kept) → MaskOf (m .curved) (curved kept) → Holding m (arraysOf kept)

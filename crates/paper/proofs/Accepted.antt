@@ -51,9 +51,10 @@ module _ (t : Totals) (rates : Rated t) (T : ℕ) where
         stated = tolerance-reported (change t) u T;
         over = λ e. over-sound t rates T (one-verdict (verdict m u T) Over (sym said ∙ e));
         within = λ e. within-sound t rates T (one-verdict (verdict m u T) WithinLine (sym said ∙ e));
-        close = rw (measure-reported (change t) u T, tolerance-reported (change t) u T)
-            (λ e. close-reaches m u T .0 (one-verdict (verdict m u T) Close (sym said ∙ e)),
-            λ h. said ∙ ap (λ (v : Verdict). pos (verdictNumber v)) (close-reaches m u T .1 h));
+        close = rw (measure-reported (change t) u T, tolerance-reported (change t) u T) (
+          λ e. close-reaches m u T .0 (one-verdict (verdict m u T) Close (sym said ∙ e)),
+          λ h. said ∙ ap (λ (v : Verdict). pos (verdictNumber v)) (close-reaches m u T .1 h),
+        );
       }
 
 pub accepted-true : (book : List ℕ) (T reportRoom ledgerRoom : ℕ) (kept : List Record) → outcome book T reportRoom ledgerRoom ≡ accepted kept

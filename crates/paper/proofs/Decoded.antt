@@ -26,7 +26,6 @@ pub record Row : Type 0 where
   pub is : Checked Record
 
 infix 1 _means_
-
 abbrev _means_ : Checked Record → Checked Record → Row
 body means is = record { body = body; is = is }
 

@@ -9,7 +9,10 @@ use Rattle.laws.specs.Sums.{sum, greatest}
 use Rattle.laws.specs.Nearest.{nearest, nearestℤ, roundedUp}
 use Rattle.laws.specs.Lists.{tabulateFrom}
 use Rattle.paper.specs.Scales.{billion}
-use Rattle.paper.specs.Curve.{Shocks, rateChanges}
+use Rattle.laws.specs.Series.{factorial}
+use Rattle.paper.specs.Ladder.{midpoints}
+use Rattle.paper.specs.Series.{under, seriesTerm, over}
+use Rattle.paper.specs.Curve.{Shocks, shortShare, rateChanges}
 use Rattle.paper.specs.Change.{toleranceOf}
 use Rattle.paper.specs.Verdict.{scenarioSum, measure, worst, verdict, verdictNumber}
 
@@ -62,8 +65,13 @@ table =
       given = rateChanges (record { parallel = 0; short = 1; long = 1 }) 5000000;
       stated = pos 0 ∷ pos 0 ∷ pos 0 ∷ pos 89 ∷ negℤ (pos 59) ∷ pos 1 ∷ negsuc 0 ∷ [];
     }
+    -- SRP31.92: at 3.5 years, with shocks of 100 basis points, the short shock is 41.7, the steepener 25.4, the flattener -1.6 basis points
+    ∷ record {
+      given = pos (shortShare 9) ∷ rateChanges (record { parallel = 100; short = 100; long = 100 }) (shortShare 9);
+      stated = pos 416862020 ∷ pos 0 ∷ pos 10000 ∷ negℤ (pos 10000) ∷ pos 2539 ∷ negℤ (pos 164) ∷ pos 4169 ∷ negℤ (pos 4169) ∷ [];
+    }
     ∷ []
 
 pub rules-hold : map (λ r. r .given) table ≡ map (λ r. r .stated) table
-unfolding table first sum greatest nearest nearestℤ roundedUp tabulateFrom rateChanges toleranceOf scenarioSum measure worst verdict verdictNumber
+unfolding table first sum greatest nearest nearestℤ roundedUp tabulateFrom factorial midpoints under seriesTerm over shortShare rateChanges toleranceOf scenarioSum measure worst verdict verdictNumber
 rules-hold = refl

@@ -1,4 +1,4 @@
--- Behaviour of deposits and loans (001, 5 and 6; 01, "Records", kinds 4 to 6). Lists of amounts are by bucket, 19 of them.
+-- Behaviour of deposits and loans (001, 6; 01, "Records", kinds 4 to 6). Lists of amounts are by bucket, 19 of them.
 use Prim.Native.Nat.{ℕ, zero, suc, _+_, _*_, _-_, _/_, min}
 use mathlib.Core.List.{List, [], _∷_}
 use lib.ListN.{getD, drop}
@@ -6,7 +6,7 @@ use Rattle.laws.specs.Tests.{if_then_else_, _is_}
 use Rattle.laws.specs.Sums.{sum, total, sumOf}
 use Rattle.paper.specs.Ladder.{buckets, midpoint}
 
--- ---- kind 4: a core and the rest
+-- ---- kind 4: a core and the rest (001, 6.1, table 4)
 
 -- the core is at most so many per cent of the total, by category
 abbrev pub coreCap : ℕ → ℕ
@@ -24,7 +24,7 @@ weighedCore core = sum (λ k. getD core k 0 * midpoint k) buckets
 unfoldable pub depositFlow : ℕ → List ℕ → ℕ → ℕ
 depositFlow total core k = getD core k 0 + (if k is 0 then total - sumOf core else 0)
 
--- ---- kinds 5 and 6: a rate in hundred-thousandths, from the share and the scenario
+-- ---- kinds 5 and 6: a rate in hundred-thousandths, from the share and the scenario (001, tables 5 and 6)
 
 abbrev pub wholeRate : ℕ
 wholeRate = 100000
@@ -45,7 +45,7 @@ prepaymentRate = behaviouralRate prepaymentMultipliers
 abbrev pub withdrawalRate : ℕ → ℕ → ℕ
 withdrawalRate = behaviouralRate withdrawalMultipliers
 
--- ---- kind 5, in one bucket: of what is scheduled and what is outstanding before payment
+-- ---- kind 5, in one bucket (001, 6.3): of what is scheduled and what is outstanding before payment
 
 unfoldable pub paid : ℕ → ℕ → ℕ
 paid scheduled outstanding = min scheduled outstanding
@@ -85,7 +85,7 @@ interestAt rate principals interests k = interest (getD interests k 0) (outstand
 unfoldable pub loanFlow : ℕ → List ℕ → List ℕ → ℕ → ℕ
 loanFlow rate principals interests k = paidAt rate principals k + prepaidAt rate principals k + interestAt rate principals interests k
 
--- ---- kind 6: the part of an amount that moves to bucket 1, rounded down bucket by bucket
+-- ---- kind 6 (001, 6.4): the part of an amount that moves to bucket 1, rounded down bucket by bucket
 
 unfoldable pub moved : ℕ → ℕ → ℕ
 moved rate amount = amount * rate / wholeRate

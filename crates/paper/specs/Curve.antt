@@ -1,4 +1,4 @@
--- Curves and shocks (SRP31.90 to 31.93; 01, "Curves and shocks"). Rates are millionths, shocks basis points.
+-- Curves and shocks (SRP31.91; 01, "Curves and shocks"). Rates are millionths, shocks basis points.
 use Prim.Native.Nat.{ℕ, _*_, _/_}
 use mathlib.Core.List.{List, [], _∷_}
 use lib.IntN.{ℤ, pos, negℤ, _+ℤ_, _-ℤ_, _*ℤ_}

@@ -1,4 +1,4 @@
--- From changes to the verdict. The rules are over any changes by currency and scenario, the report over their list.
+-- From changes to the verdict (001, step 5; SRP31.82 for the 15 per cent). The rules are over any changes by currency and scenario, the report over their list.
 use Prim.Native.Nat.{ℕ, suc, _+_, _*_, _-_, _/_, _%_}
 use mathlib.Core.List.{List, [], _∷_, _++_}
 use lib.IntN.{ℤ, pos, _+ℤ_, _-ℤ_, _*ℤ_}
