@@ -6,3 +6,4 @@ pub mod Walking
 -- what `assess` promises
 pub mod Truth
 pub mod Unique
+pub mod Impostors

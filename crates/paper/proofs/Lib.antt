@@ -33,3 +33,4 @@ pub mod Accepted
 -- the table of tables written out, by which a report is cheap to compute
 pub mod Written
 pub mod Example
+pub mod TwoCurrencies

@@ -1,0 +1,10 @@
+//! Books for people: a text form that can be read and written, and refusal numbers in words.
+
+mod explain;
+mod make;
+mod show;
+mod values;
+
+pub use explain::explain;
+pub use make::{make, BadLine};
+pub use show::{show_book, show_input, Listing};

@@ -1,0 +1,77 @@
+//! From bytes to the text form. Everything but the records is a comment, which `make` passes over.
+
+use crate::values;
+use reference::{answer_input, split_input, step, Answer, Field, Record, Refusal, Request, Step};
+
+const RAW_BYTES_IN_A_LINE: usize = 16;
+
+pub struct Listing {
+    pub text: String,
+    /// Why `irreport` would turn the book down, if it would.
+    pub refusal: Option<Refusal>,
+}
+
+/// The listing of a book without capital; capital is then no reason to turn it down.
+pub fn show_book(book: &[u8]) -> Listing {
+    listing(None, book, Request::roomy(book, 1).answer())
+}
+
+/// The listing of an input of `irreport`. One too short for capital is also too short for a record: all raw.
+pub fn show_input(input: &[u8]) -> Listing {
+    let answer = answer_input(input);
+    match split_input(input) {
+        Some((capital, book)) => listing(Some(capital), book, answer),
+        None => listing(None, input, answer),
+    }
+}
+
+fn listing(capital: Option<u64>, book: &[u8], answer: Answer) -> Listing {
+    let refusal = match answer {
+        Answer::Accepted(_) => None,
+        Answer::Refused(refusal) => Some(refusal),
+    };
+    let found = refusal.as_ref().map(|refusal| (refusal.number, refusal.place));
+    let mark = |here: bool| refusal.iter().filter(|_| here).map(marked).collect::<String>();
+    let mut text = mark(matches!(found, Some((16..=18, _))));
+    text.extend(capital.map(|capital| format!("capital {capital}\n")));
+    let (mut place, mut count) = (0, 0);
+    while let Step::Whole(record) = step(book, place) {
+        text += &mark(matches!(found, Some((1..=14, at)) if at == place));
+        text += &format!("{}  # place {place}\n", record_line(&record));
+        place += record.length();
+        count += 1;
+    }
+    text += &mark(matches!(found, Some((1..=2, at)) if at == place));
+    text += &raw_lines(&book[place..], place);
+    text += &mark(matches!(found, Some((15, _))));
+    Listing { text: summary(book.len(), count, found) + &text, refusal }
+}
+
+fn summary(length: usize, records: usize, refused: Option<(u8, usize)>) -> String {
+    let fate = match refused {
+        None => "accepts it".to_string(),
+        Some((number, place)) => format!("turns it down with R {number} {place}, marked >>>"),
+    };
+    format!("# Bytes of book: {length}. Whole records: {records}. irreport {fate}.\n")
+}
+
+fn marked(refusal: &Refusal) -> String {
+    let Refusal { number, place, because } = refusal;
+    format!("# >>> R {number} {place}: {because}. More: bookkit explain {number}\n")
+}
+
+fn record_line(record: &Record) -> String {
+    let kind = record.kind;
+    let item = |field: &Field| format!(" {}={}", field.name, values::written(kind, field, record.all(field.name)));
+    kind.name.to_string() + &kind.fields.iter().map(item).collect::<String>()
+}
+
+/// Bytes that make no whole record of a known kind.
+fn raw_lines(bytes: &[u8], start: usize) -> String {
+    let mut text = String::new();
+    for (index, line) in bytes.chunks(RAW_BYTES_IN_A_LINE).enumerate() {
+        let digits: String = line.iter().map(|byte| format!(" {byte:02x}")).collect();
+        text += &format!("raw{digits}  # place {}\n", start + index * RAW_BYTES_IN_A_LINE);
+    }
+    text
+}

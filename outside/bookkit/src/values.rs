@@ -1,0 +1,98 @@
+//! How the numbers of a field stand in the text form, and how they are read back.
+
+use reference::{Field, Item, Kind};
+
+const NIL: &str = "nil";
+
+/// The words for sides 1 and 2.
+fn side_words(kind: &Kind) -> [&'static str; 2] {
+    if kind.number == 7 {
+        ["sold", "bought"]
+    } else {
+        ["asset", "liability"]
+    }
+}
+
+pub fn written(kind: &Kind, field: &Field, values: &[i64]) -> String {
+    match (field.item, values) {
+        (Item::Side, [side @ 1..=2]) => side_words(kind)[*side as usize - 1].to_string(),
+        (_, [value]) => value.to_string(),
+        _ => written_list(values),
+    }
+}
+
+/// Runs of equal numbers as `first-last:value`, counted from 1; what is not named is nil.
+fn written_list(values: &[i64]) -> String {
+    let mut runs = Vec::new();
+    let mut first = 1;
+    for run in values.chunk_by(|left, right| left == right) {
+        let last = first + run.len() - 1;
+        match run[0] {
+            0 => {}
+            value if first == last => runs.push(format!("{first}:{value}")),
+            value => runs.push(format!("{first}-{last}:{value}")),
+        }
+        first = last + 1;
+    }
+    if runs.is_empty() {
+        NIL.to_string()
+    } else {
+        runs.join(",")
+    }
+}
+
+/// The numbers of a field, or what is wrong with the text.
+pub fn read(kind: &Kind, field: &Field, text: &str) -> Result<Vec<i64>, String> {
+    if field.times > 1 {
+        return read_list(field, text);
+    }
+    if field.item == Item::Side {
+        return read_side(kind, field, text);
+    }
+    Ok(vec![read_number(field, text)?])
+}
+
+fn read_side(kind: &Kind, field: &Field, text: &str) -> Result<Vec<i64>, String> {
+    let words = side_words(kind);
+    match words.iter().position(|word| *word == text) {
+        Some(index) => Ok(vec![index as i64 + 1]),
+        None if text.starts_with(|first: char| first.is_alphabetic()) => {
+            Err(format!("side takes {} or {}, not \"{text}\"", words[0], words[1]))
+        }
+        None => Ok(vec![read_number(field, text)?]),
+    }
+}
+
+fn read_number(field: &Field, text: &str) -> Result<i64, String> {
+    let (low, high) = field.item.bounds();
+    let number: i128 = text.parse().map_err(|_| format!("{} takes a whole number, not \"{text}\"", field.name))?;
+    match i64::try_from(number) {
+        Ok(number) if (low..=high).contains(&number) => Ok(number),
+        _ => Err(format!("{} cannot hold {text}: only {low} to {high} fit", field.name)),
+    }
+}
+
+fn read_list(field: &Field, text: &str) -> Result<Vec<i64>, String> {
+    let mut values = vec![None; field.times];
+    for run in text.split(',').filter(|_| text != NIL) {
+        let (range, value) = run.split_once(':').ok_or_else(|| {
+            format!("{} takes \"{NIL}\" or items like 3:500 or 1-{}:500, not \"{run}\"", field.name, field.times)
+        })?;
+        let value = read_number(field, value)?;
+        for slot in &mut values[read_range(field, range)?] {
+            if slot.replace(value).is_some() {
+                return Err(format!("{} names a {} of {range} twice", field.name, field.counted_by()));
+            }
+        }
+    }
+    Ok(values.into_iter().map(Option::unwrap_or_default).collect())
+}
+
+/// The places `first-last` or `first`, as indexes from 0.
+fn read_range(field: &Field, text: &str) -> Result<std::ops::Range<usize>, String> {
+    let (first, last) = text.split_once('-').unwrap_or((text, text));
+    match (first.parse::<usize>(), last.parse::<usize>()) {
+        (Ok(first), Ok(last)) if 1 <= first && first <= last && last <= field.times => Ok(first - 1..last),
+        _ => Err(format!("{} has {}s 1 to {}, not \"{text}\"", field.name, field.counted_by(), field.times)),
+    }
+}

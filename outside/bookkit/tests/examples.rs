@@ -1,0 +1,53 @@
+//! The books under `examples/`: text, input and report of each agree.
+
+use bookkit::{make, show_input};
+use reference::{irreport, split, split_input};
+use std::collections::BTreeSet;
+use std::fs;
+use std::path::PathBuf;
+
+fn example(name: &str) -> Vec<u8> {
+    let path = PathBuf::from(env!("CARGO_MANIFEST_DIR")).join("../../examples").join(name);
+    fs::read(&path).unwrap_or_else(|error| panic!("{}: {error}", path.display()))
+}
+
+fn text_of(name: &str) -> String {
+    String::from_utf8(example(name)).expect("text")
+}
+
+#[test]
+fn text_input_and_report_agree() {
+    for name in ["worked", "small-bank", "damaged"] {
+        let input = example(&format!("{name}.input"));
+        assert_eq!(make(&example(&format!("{name}.txt"))), Ok(input.clone()), "{name}");
+        assert_eq!(irreport(&input), text_of(&format!("{name}.report")), "{name}");
+    }
+}
+
+/// Written from the paper by hand, byte by byte.
+#[test]
+fn the_worked_example_is_that_of_the_paper() {
+    let curve = [&[8, 1][..], &[0; 19 * 4], &[1, 144, 0, 0, 0, 0]].concat();
+    let flow = [1, 1, 1, 0, 241, 0, 0, 15, 66, 64];
+    let input = [&4_214_126u64.to_be_bytes()[..], &curve, &flow].concat();
+    assert_eq!(example("worked.input"), input);
+    assert_eq!(text_of("worked.report"), "C 1 632121 -1718282 0 0 0 0\nS 632121 0 0 0 0 0\nM 632121 1 2\nV OVER\n");
+}
+
+#[test]
+fn the_small_bank_has_all_kinds_in_two_currencies() {
+    let input = example("small-bank.input");
+    let (_, book) = split_input(&input).expect("an input");
+    let (records, rest) = split(book);
+    let kinds: BTreeSet<u8> = records.iter().map(|record| record[0]).collect();
+    let currencies: BTreeSet<u8> = records.iter().map(|record| record[1]).collect();
+    assert_eq!((kinds.len(), currencies.len(), rest.len()), (8, 2, 0));
+    assert_eq!(show_input(&input).refusal.map(|refusal| refusal.number), None);
+}
+
+#[test]
+fn the_damaged_book_is_shown_as_its_text_says() {
+    let listing = show_input(&example("damaged.input"));
+    assert!(text_of("damaged.txt").ends_with(&listing.text));
+    assert!(example("small-bank.input").starts_with(&example("damaged.input")));
+}

@@ -1,0 +1,83 @@
+//! `make` undoes `show`, on whole books and on damaged ones, and `show` marks the refusal at its place.
+
+use bookkit::{make, show_book, show_input, Listing};
+use books::{aimed_case, case, Draw};
+use reference::{answer_input, split};
+
+/// The line after the only mark, if there is a mark.
+fn line_after_mark(text: &str) -> Option<&str> {
+    let mut lines = text.lines().skip_while(|line| !line.starts_with("# >>>"));
+    lines.next()?;
+    let after = lines.next();
+    assert!(lines.all(|line| !line.starts_with("# >>>")), "a second mark in:\n{text}");
+    Some(after.unwrap_or("the end"))
+}
+
+fn assert_marked(listing: &Listing) {
+    let Some(refusal) = &listing.refusal else {
+        assert_eq!(line_after_mark(&listing.text), None);
+        return;
+    };
+    let line = line_after_mark(&listing.text).expect("a mark");
+    assert!(listing.text.contains(&format!("# >>> R {} {}: ", refusal.number, refusal.place)));
+    match refusal.number {
+        1..=14 => assert!(line.ends_with(&format!("  # place {}", refusal.place)), "{line}"),
+        15 => assert_eq!(line, "the end"),
+        _ => assert!(line.starts_with("capital ") || line == "the end" || line.contains("# place 0"), "{line}"),
+    }
+}
+
+#[test]
+fn generated_books_and_inputs_come_back_byte_by_byte() {
+    let (mut whole, mut refused) = (0, 0);
+    for seed in 0..2_000 {
+        let case = case(seed);
+        let listing = show_book(&case.book);
+        assert_marked(&listing);
+        assert!(make(listing.text.as_bytes()).as_ref() == Ok(&case.book), "seed {seed}");
+        whole += usize::from(split(&case.book).1.is_empty());
+        let listing = show_input(&case.input());
+        assert_marked(&listing);
+        assert!(make(listing.text.as_bytes()).as_ref() == Ok(&case.input()), "input of seed {seed}");
+        refused += usize::from(listing.refusal.is_some());
+    }
+    assert!(whole > 1_000 && refused > 500, "{whole} whole, {refused} refused");
+}
+
+#[test]
+fn every_refusal_of_a_book_is_marked_in_words() {
+    for number in 1..=17 {
+        let input = aimed_case(&mut Draw::seeded(1), number, true).input();
+        let listing = show_input(&input);
+        let refusal = listing.refusal.as_ref().expect("a refusal");
+        assert_eq!((refusal.number, refusal.place), answer_input(&input).refused().expect("a refusal"));
+        assert_eq!(refusal.number, number);
+        assert!(refusal.because.len() > 10, "{}", refusal.because);
+        assert_marked(&listing);
+    }
+}
+
+#[test]
+fn inputs_too_short_for_capital_are_raw() {
+    for length in 0..8 {
+        let input = vec![1; length];
+        let listing = show_input(&input);
+        assert_eq!(listing.refusal.as_ref().map(|refusal| refusal.number), Some(16));
+        assert_eq!(make(listing.text.as_bytes()), Ok(input));
+    }
+}
+
+#[test]
+fn every_byte_of_a_record_shows() {
+    let book = aimed_case(&mut Draw::seeded(3), 1, false).book;
+    for place in 0..book.len() {
+        let mut other = book.clone();
+        other[place] ^= 1;
+        let (text, changed) = (show_book(&book).text, show_book(&other).text);
+        assert_ne!(
+            text.lines().skip(1).collect::<Vec<_>>(),
+            changed.lines().skip(1).collect::<Vec<_>>(),
+            "byte {place}"
+        );
+    }
+}

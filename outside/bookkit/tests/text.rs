@@ -1,0 +1,90 @@
+//! The text form: what it may look like, and what is said about a bad line.
+
+use bookkit::{explain, make, show_book, BadLine};
+
+const FLOW: [u8; 10] = [1, 2, 1, 1, 44, 5, 0, 0, 3, 232];
+
+fn why(text: &str) -> (usize, String) {
+    let BadLine { line, why } = make(text.as_bytes()).expect_err("a bad line");
+    (line, why)
+}
+
+#[test]
+fn comments_blank_lines_order_and_line_ends_do_not_matter() {
+    let text = "# first\r\n\r\n  single-flow days=5 amount=1000 side=asset months=300 currency=2 # last\r\n";
+    assert_eq!(make(text.as_bytes()), Ok(FLOW.to_vec()));
+    assert_eq!(make(b"single-flow currency=2 side=1 months=300 days=5 amount=1000"), Ok(FLOW.to_vec()));
+    assert_eq!(make(b""), Ok(vec![]));
+}
+
+#[test]
+fn capital_makes_an_input() {
+    assert_eq!(make(b"capital 258\nraw 09 ff\nraw 00"), Ok(vec![0, 0, 0, 0, 0, 0, 1, 2, 9, 255, 0]));
+}
+
+#[test]
+fn lists_run_from_bucket_to_bucket() {
+    let line = |amounts: &str| format!("term-deposit currency=1 share=2 amounts={amounts}");
+    let amounts = |text: &str| {
+        make(line(text).as_bytes()).expect("a good line")[4..].chunks(4).map(|four| four[3]).collect::<Vec<_>>()
+    };
+    let mut expected = [0; 19];
+    assert_eq!(amounts("nil"), expected);
+    expected[2..5].fill(7);
+    expected[18] = 9;
+    assert_eq!(amounts("19:9,3-5:7"), expected);
+    let book = make(line("19:9,3-5:7").as_bytes()).expect("a good line");
+    assert!(show_book(&book).text.contains("amounts=3-5:7,19:9 "));
+}
+
+#[test]
+fn sides_have_words_where_they_are_good() {
+    let text = |side: u8| show_book(&[&[1, 1, side][..], &FLOW[3..]].concat()).text;
+    assert!(text(1).contains(" side=asset ") && text(2).contains(" side=liability ") && text(3).contains(" side=3 "));
+    let text = |side: u8| show_book(&[&[7, 1, side][..], &[0; 24]].concat()).text;
+    assert!(text(1).contains(" side=sold ") && text(2).contains(" side=bought ") && text(0).contains(" side=0 "));
+}
+
+#[test]
+fn a_bad_line_is_named_with_its_reason() {
+    let flow = "single-flow currency=1 side=asset months=1 amount=4";
+    let bad = [
+        ("loan currency=1", "\"loan\" is no record"),
+        (flow, "single-flow lacks days"),
+        ("single-flow currency=1 currency=1 side=asset months=1 days=2 amount=4", "has currency twice"),
+        ("single-flow day=1", "not \"day=1\""),
+        ("single-flow days", "not \"days\""),
+        ("single-flow currency=1 side=sold months=1 days=2 amount=4", "side takes asset or liability, not \"sold\""),
+        ("single-flow currency=1 side=asset months=1 days=256 amount=4", "days cannot hold 256: only 0 to 255 fit"),
+        ("single-flow currency=1 side=asset months=1 days=2 amount=-1", "amount cannot hold -1"),
+        (
+            "single-flow currency=1 side=asset months=1 days=2 amount=1,000",
+            "amount takes a whole number, not \"1,000\"",
+        ),
+        ("term-deposit currency=1 share=2 amounts=1-3:4,3:5", "names a bucket of 3 twice"),
+        ("term-deposit currency=1 share=2 amounts=20:5", "has buckets 1 to 19, not \"20\""),
+        ("term-deposit currency=1 share=2 amounts=3-2:5", "has buckets 1 to 19, not \"3-2\""),
+        ("term-deposit currency=1 share=2 amounts=5", "not \"5\""),
+        ("option-add-on currency=1 side=sold values=7:1", "has scenarios 1 to 6, not \"7\""),
+        ("capital", "capital takes one number"),
+        ("raw 0", "not \"0\""),
+        ("raw +1", "not \"+1\""),
+        ("raw", "hexadecimal"),
+    ];
+    for (text, reason) in bad {
+        let (line, why) = why(&format!("# a comment\n{text}\n"));
+        assert!(line == 2 && why.contains(reason) && !why.contains('\n'), "{text}: line {line}: {why}");
+    }
+    assert_eq!(why("raw 01\ncapital 5").0, 2);
+    assert_eq!(why("capital 1\ncapital 5"), (2, "capital comes once, before everything else".to_string()));
+    assert_eq!(make(b"\n\nraw \xff").expect_err("no text").line, 3);
+}
+
+#[test]
+fn each_number_is_explained_and_no_other() {
+    for number in 1..=18 {
+        let text = explain(number).expect("an explanation");
+        assert!(text.starts_with(&format!("{number}: ")) && text.lines().count() == 2);
+    }
+    assert_eq!((explain(0), explain(19)), (None, None));
+}

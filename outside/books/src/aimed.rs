@@ -1,0 +1,189 @@
+//! Cases aimed at one refusal number: just out, turned down with it, or just in, not turned down with it.
+
+use crate::aimed_limits as limits;
+use crate::case::{joined, Case, Expected};
+use crate::draw::Draw;
+use crate::position::{bearable_rates, curve, position, record};
+use crate::valid;
+use reference::{
+    Item, Kind, Record, BUCKETS, GREATEST_CAPITAL, KINDS, LAST_MONTH, LEDGER_CELLS, LONGEST_BOOK, REPORT_CELLS,
+};
+
+pub fn case(draw: &mut Draw, number: u8, out: bool) -> Case {
+    match number {
+        1..=14 => aimed_record(draw, number, out),
+        15 => missing_curve(draw, out),
+        _ => outside_the_records(draw, number, out),
+    }
+}
+
+/// A book whose last record, but for a tail that is never read, has the fault or just misses it.
+fn aimed_record(draw: &mut Draw, number: u8, out: bool) -> Case {
+    let currency = draw.between(1, 8);
+    let mut book = front(draw, number, currency);
+    let mut records = aimed_records(draw, number, currency, out);
+    let last = records.pop().expect("an aimed record");
+    book.extend(records.concat());
+    let place = book.len();
+    book.extend(last);
+    if !out {
+        return Case::of(draw, book, Expected::NotRefusedWith(number));
+    }
+    if number != 2 {
+        book.extend((0..draw.amount(40)).map(|_| draw.byte()));
+    }
+    Case::of(draw, book, Expected::Refused { number, place })
+}
+
+/// Good records of other currencies, and a curve for the aimed one unless the aimed record is a curve itself.
+fn front(draw: &mut Draw, number: u8, currency: i64) -> Vec<u8> {
+    let others: Vec<i64> = (1..=8).filter(|other| *other != currency).collect();
+    let length = draw.between(0, 400) as usize;
+    let mut records = valid::records(draw, &others, length);
+    if !(12..=13).contains(&number) {
+        records.push(curve(draw, currency));
+        draw.shuffle(&mut records);
+    }
+    joined(&records)
+}
+
+/// Records of the aimed currency, of which the last is the aimed one.
+fn aimed_records(draw: &mut Draw, number: u8, currency: i64, out: bool) -> Vec<Vec<u8>> {
+    let records = match number {
+        1 if out => return vec![vec![draw.pick(&[0, 9, 10, 128, 255])]],
+        2 if out => return vec![cut_short(draw, currency)],
+        1 | 2 => vec![some_position(draw, currency)],
+        9 => vec![limits::core_at_its_cap(draw, currency, out)],
+        10 => vec![limits::core_average_at_its_cap(draw, currency, out)],
+        11 => vec![limits::interest_at_the_last_principal(draw, currency, out)],
+        12 if out => vec![curve(draw, currency), second_curve(draw, currency)],
+        12 => vec![curve(draw, currency)],
+        13 if draw.coin() => vec![shocked_rate(draw, currency, out)],
+        14 => limits::gross_at_its_limit(draw, currency, out),
+        _ => vec![field_at_its_edge(draw, number, currency, out)],
+    };
+    records.iter().map(Record::bytes).collect()
+}
+
+/// At times with a rate out of range as well: 12 comes first.
+fn second_curve(draw: &mut Draw, currency: i64) -> Record {
+    let second = curve(draw, currency);
+    if draw.coin() {
+        return second;
+    }
+    second.with("rates", draw.index(BUCKETS), 300_001)
+}
+
+fn some_position(draw: &mut Draw, currency: i64) -> Record {
+    let kind = draw.between(1, 7) as u8;
+    position(draw, kind, currency, 1_000_000)
+}
+
+/// At times with a bad currency as well: 2 comes first.
+fn cut_short(draw: &mut Draw, currency: i64) -> Vec<u8> {
+    let currency = draw.pick(&[currency, 0, 9]);
+    let mut bytes = if draw.once_in(4) { curve(draw, currency).bytes() } else { some_position(draw, currency).bytes() };
+    let length = draw.between(1, bytes.len() as i64 - 1);
+    bytes.truncate(draw.pick(&[1, length as usize, bytes.len() - 1]));
+    bytes
+}
+
+/// A record with one field at or just beyond the end of its range; everything else in it is good.
+fn field_at_its_edge(draw: &mut Draw, number: u8, currency: i64, out: bool) -> Record {
+    let judged = |kind: &'static Kind| kind.fields.iter().map(move |field| (kind, field));
+    let fields: Vec<_> = KINDS.iter().flat_map(judged).filter(|(_, field)| field.item.allowed().0 == number).collect();
+    let (kind, field) = draw.pick(&fields);
+    let plain = match kind.number {
+        8 => record(8, &[vec![currency], vec![100_000; BUCKETS], vec![0; 3]].concat()),
+        other => position(draw, other, currency, 0),
+    };
+    let value = match field.item {
+        Item::Period if out => draw.pick(&[0, 2, 4, 5, 7, 11, 13, 255]),
+        Item::Period => return plain,
+        Item::Count => edge(draw, Item::Count, 1, LAST_MONTH / plain.one("period"), out),
+        Item::Currency if !out => currency,
+        item => edge(draw, item, *item.allowed().1.start(), *item.allowed().1.end(), out),
+    };
+    plain.with(field.name, draw.index(field.times), value)
+}
+
+/// An end of the range, or a number next to it or far beyond it that the field's bytes can still hold.
+fn edge(draw: &mut Draw, item: Item, first: i64, last: i64, out: bool) -> i64 {
+    if !out {
+        return draw.pick(&[first, last]);
+    }
+    let (low, high) = item.bounds();
+    let far = [first - 1, last + 1, last + 1, low, high];
+    let beyond: Vec<i64> =
+        far.into_iter().filter(|value| (low..first).contains(value) || (last + 1..=high).contains(value)).collect();
+    draw.pick(&beyond)
+}
+
+/// Rates that their shocks bring to the ends of the range; just out, one of them goes a step further.
+fn shocked_rate(draw: &mut Draw, currency: i64, out: bool) -> Record {
+    let mut shocks = [0; 3].map(|_| draw.amount(1_000));
+    shocks[draw.index(3)] = draw.between(1, 1_000);
+    let ends = |bucket| bearable_rates(shocks, bucket);
+    let mut rates: Vec<i64> = (0..BUCKETS).map(|bucket| draw.pick(&[ends(bucket).0, ends(bucket).1])).collect();
+    if out {
+        let bucket = draw.index(BUCKETS);
+        rates[bucket] = draw.pick(&[ends(bucket).0 - 1, ends(bucket).1 + 1]);
+    }
+    record(8, &[vec![currency], rates, shocks.to_vec()].concat())
+}
+
+/// Positions, of nil at times, in up to three currencies that have no curve; just in, the curves follow.
+fn missing_curve(draw: &mut Draw, out: bool) -> Case {
+    let mut currencies: Vec<i64> = (1..=8).collect();
+    draw.shuffle(&mut currencies);
+    let (lacking, others) = currencies.split_at(draw.between(1, 3) as usize);
+    let length = draw.between(0, 400) as usize;
+    let mut records = valid::records(draw, others, length);
+    for currency in lacking {
+        let kind = draw.between(1, 7) as u8;
+        let most = draw.pick(&[0, 1_000_000]);
+        records.push(position(draw, kind, *currency, most));
+        if !out {
+            records.push(curve(draw, *currency));
+        }
+    }
+    draw.shuffle(&mut records);
+    let lowest = lacking.iter().fold(8, |lowest, currency| lowest.min(*currency));
+    let refused = Expected::Refused { number: 15, place: lowest as usize };
+    let expected = if out { refused } else { Expected::Accepted };
+    Case::of(draw, joined(&records), expected)
+}
+
+/// 16, 17 and 18. Just out, what comes later in the order is bad as well at times.
+fn outside_the_records(draw: &mut Draw, number: u8, out: bool) -> Case {
+    let junk: Vec<u8> = (0..draw.amount(200)).map(|_| draw.byte()).collect();
+    let expected = if out { Expected::Refused { number, place: 0 } } else { Expected::NotRefusedWith(number) };
+    let mut case = Case::of(draw, junk, expected);
+    if number == 18 {
+        (case.report_room, case.ledger_room) = if out { short_rooms(draw) } else { (REPORT_CELLS, LEDGER_CELLS) };
+    }
+    if number == 17 || number == 18 && out && draw.once_in(3) {
+        let beyond = if out { draw.pick(&[1, 2, 8, 1_000]) } else { 0 };
+        case.book = long_book(draw, LONGEST_BOOK + beyond);
+    }
+    if number == 16 || out && draw.once_in(3) {
+        let bad = [0, GREATEST_CAPITAL + 1, u64::MAX >> 1, 1 << 63, u64::MAX];
+        case.capital = if out { draw.pick(&bad) } else { draw.pick(&[1, GREATEST_CAPITAL]) };
+    }
+    case
+}
+
+/// Rooms of which at least one is too short.
+fn short_rooms(draw: &mut Draw) -> (usize, usize) {
+    let report = draw.pick(&[0, 1, REPORT_CELLS - 1]);
+    let ledger = draw.pick(&[0, 1, LEDGER_CELLS - 1]);
+    let enough = (draw.pick(&[REPORT_CELLS, 100]), draw.pick(&[LEDGER_CELLS, 2_000]));
+    draw.pick(&[(report, enough.1), (enough.0, ledger), (report, ledger)])
+}
+
+/// A good book of the greatest length; where more is asked for, with bytes of 1 after it.
+fn long_book(draw: &mut Draw, length: usize) -> Vec<u8> {
+    let mut book = joined(&valid::longest_records(draw));
+    book.resize(length, 1);
+    book
+}

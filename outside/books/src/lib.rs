@@ -1,0 +1,16 @@
+//! Seeded books for comparison: good ones of every kind and size, ones aimed at each refusal number at its edges,
+//! damaged ones; and a shrinker that finds a small book showing the same difference.
+
+mod aimed;
+mod aimed_limits;
+mod case;
+mod damage;
+mod draw;
+mod position;
+mod shrink;
+mod valid;
+
+pub use aimed::case as aimed_case;
+pub use case::{case, good as good_case, Case, Expected};
+pub use draw::Draw;
+pub use shrink::shrink;

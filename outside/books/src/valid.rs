@@ -1,0 +1,74 @@
+//! Whole books that are accepted, of every size.
+
+use crate::draw::Draw;
+use crate::position::{curve, position};
+use reference::{Kind, Record, GREATEST_GROSS, LONGEST_BOOK};
+use std::collections::BTreeMap;
+
+const CURVE_LENGTH: usize = 84;
+
+/// The records of a good book of at most `length` bytes in some of the currencies, shuffled.
+pub fn records(draw: &mut Draw, currencies: &[i64], length: usize) -> Vec<Record> {
+    let mut currencies = currencies.to_vec();
+    draw.shuffle(&mut currencies);
+    currencies.truncate(draw.between(0, currencies.len() as i64).min((length / CURVE_LENGTH) as i64) as usize);
+    if currencies.is_empty() {
+        return Vec::new();
+    }
+    let kinds = kinds_up_to(draw, length - CURVE_LENGTH * currencies.len());
+    assemble(draw, &currencies, &kinds)
+}
+
+/// The records of a good book that is as long as a book can be.
+pub fn longest_records(draw: &mut Draw) -> Vec<Record> {
+    let currencies: Vec<i64> = (1..=draw.between(1, 8)).collect();
+    let kinds = kinds_filling(draw, LONGEST_BOOK - CURVE_LENGTH * currencies.len());
+    assemble(draw, &currencies, &kinds)
+}
+
+/// One curve for each currency and one position for each kind; the limits are shared out among the positions.
+fn assemble(draw: &mut Draw, currencies: &[i64], kinds: &[u8]) -> Vec<Record> {
+    let placed: Vec<(u8, i64)> = kinds.iter().map(|kind| (*kind, draw.pick(currencies))).collect();
+    let mut records: Vec<Record> = currencies.iter().map(|currency| curve(draw, *currency)).collect();
+    let sharers = |currency: i64| placed.iter().filter(|(_, other)| *other == currency).count() as i64;
+    let shares: BTreeMap<i64, i64> = currencies.iter().map(|currency| (*currency, sharers(*currency))).collect();
+    for (kind, currency) in &placed {
+        records.push(position(draw, *kind, *currency, GREATEST_GROSS / shares[currency]));
+    }
+    draw.shuffle(&mut records);
+    records
+}
+
+fn record_length(kind: u8) -> usize {
+    1 + Kind::numbered(kind).expect("a known kind").body_length()
+}
+
+/// Kinds of positions until the next one would not fit. Some books keep to two kinds, so that records get many.
+fn kinds_up_to(draw: &mut Draw, length: usize) -> Vec<u8> {
+    let few = [draw.between(1, 7) as u8, draw.between(1, 7) as u8];
+    let keeps_to_few = draw.once_in(3);
+    let mut kinds = Vec::new();
+    let mut left = length;
+    loop {
+        let kind = if keeps_to_few { draw.pick(&few) } else { draw.between(1, 7) as u8 };
+        if record_length(kind) > left {
+            return kinds;
+        }
+        left -= record_length(kind);
+        kinds.push(kind);
+    }
+}
+
+/// Kinds of positions that fill the length to the byte: the rest of 200 bytes and more is made even by one
+/// add-on (27 bytes) where it is odd, then a multiple of 10 by coupons (14), then filled by single flows (10).
+fn kinds_filling(draw: &mut Draw, length: usize) -> Vec<u8> {
+    let mut kinds = kinds_up_to(draw, length - 200);
+    let mut left = length - kinds.iter().map(|kind| record_length(*kind)).sum::<usize>();
+    while !left.is_multiple_of(record_length(1)) {
+        let kind = if left % 2 == 1 { 7 } else { 2 };
+        kinds.push(kind);
+        left -= record_length(kind);
+    }
+    kinds.extend(vec![1; left / record_length(1)]);
+    kinds
+}

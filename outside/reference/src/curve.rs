@@ -1,0 +1,54 @@
+//! Curves, shocks and shocked rates (01, "Curves and shocks").
+
+use crate::fields::RATES;
+use crate::ladder::BUCKETS;
+use crate::layout::{Record, SCENARIOS};
+use crate::refusal::{demand, Fault};
+use crate::rounding::halves_away;
+use crate::series::tables;
+
+const BILLION: i128 = 1_000_000_000;
+
+/// The rates of one currency in millionths: base first, then the six scenarios.
+#[derive(Clone, Debug)]
+pub struct Curve {
+    pub rates: [[i64; BUCKETS]; SCENARIOS + 1],
+}
+
+/// The six changes of a bucket's rate, in millionths, for shocks in basis points.
+pub fn rate_changes(parallel: i64, short: i64, long: i64, bucket_index: usize) -> [i64; SCENARIOS] {
+    let weight = i128::from(tables().short_weights[bucket_index]);
+    let near = i128::from(short) * weight;
+    let far = i128::from(long) * (BILLION - weight);
+    let rounded = |change: i128| halves_away(change, BILLION);
+    [
+        100 * parallel,
+        -100 * parallel,
+        rounded(-65 * near + 90 * far),
+        rounded(80 * near - 60 * far),
+        rounded(100 * near),
+        rounded(-100 * near),
+    ]
+}
+
+impl Curve {
+    /// The curve of a record whose fields have been checked; refuses a shocked rate out of range.
+    pub fn from_record(record: &Record) -> Result<Curve, Fault> {
+        let mut rates = [[0; BUCKETS]; SCENARIOS + 1];
+        for (bucket, base) in record.all("rates").iter().enumerate() {
+            rates[0][bucket] = *base;
+            let changes = rate_changes(record.one("parallel"), record.one("short"), record.one("long"), bucket);
+            for (index, change) in changes.iter().enumerate() {
+                let (scenario, shocked) = (index + 1, base + change);
+                demand(RATES.contains(&shocked), 13, || {
+                    format!(
+                        "shocked rate of scenario {scenario} in bucket {} is {shocked}, outside -50000 to 300000",
+                        bucket + 1
+                    )
+                })?;
+                rates[scenario][bucket] = shocked;
+            }
+        }
+        Ok(Curve { rates })
+    }
+}

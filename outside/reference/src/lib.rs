@@ -1,0 +1,36 @@
+//! An independent implementation of document 01, straightforward and slow, to compare the product with.
+//! It shares no code and no table with the product: what comes from the series is worked out from the series.
+//!
+//! `Request::answer` is the product's one call; `Answer::fill` says what the rooms then hold; `irreport` is the
+//! report program; `Exact` has the exact changes and the exact measure.
+
+mod answer;
+mod curve;
+mod discount;
+mod exact;
+mod fields;
+mod flows;
+mod fraction;
+mod irreport;
+mod ladder;
+mod layout;
+mod natural;
+mod refusal;
+mod report;
+mod rounding;
+mod series;
+mod walk;
+
+pub use answer::{Answer, Request, GREATEST_CAPITAL, LONGEST_BOOK};
+pub use curve::{rate_changes, Curve};
+pub use discount::{computed_factor, exact_factor, exponent};
+pub use exact::Exact;
+pub use fields::{LAST_MONTH, RATES};
+pub use flows::{flows, Flows, CORE_CAPS, GREATEST_GROSS};
+pub use fraction::Fraction;
+pub use irreport::{answer_input, irreport, split_input, CAPITAL_BYTES};
+pub use ladder::{bucket_index, BUCKETS, MIDPOINTS, UPPER_ENDS};
+pub use layout::{split, step, Field, Item, Kind, Record, Step, CURRENCIES, KINDS, SCENARIOS};
+pub use refusal::Refusal;
+pub use report::{Return, Verdict, REPORT_CELLS};
+pub use walk::{cell, Positions, LEDGER_CELLS};

@@ -1,0 +1,136 @@
+//! The order of the checks: a record full of faults, mended one by one, shows its numbers in turn.
+
+use crate::hand::*;
+use reference::Request;
+
+/// Each record stands behind a curve of currency 1; nothing is left of the last one.
+fn assert_turn(records: Vec<(Vec<u8>, Option<u8>)>) {
+    for (step, (record, number)) in records.into_iter().enumerate() {
+        let expected = number.map(|number| (number, 84));
+        assert_eq!(refused(&[flat_curve(1, 0), record]), expected, "step {step}");
+    }
+}
+
+const BAD: u32 = BILLION + 1;
+const BAD_LADDER: [u32; 19] = [BAD; 19];
+const NIL: [u32; 19] = [0; 19];
+
+#[test]
+fn single_flow_in_turn() {
+    assert_turn(vec![
+        (single_flow(0, 0, 601, 31, BAD)[..9].to_vec(), Some(2)),
+        (single_flow(0, 0, 601, 31, BAD), Some(3)),
+        (single_flow(1, 0, 601, 31, BAD), Some(4)),
+        (single_flow(1, 1, 601, 31, BAD), Some(5)),
+        (single_flow(1, 1, 600, 31, BAD), Some(5)),
+        (single_flow(1, 1, 600, 30, BAD), Some(6)),
+        (single_flow(1, 1, 600, 30, BILLION), None),
+    ]);
+}
+
+#[test]
+fn fixed_coupons_in_turn() {
+    assert_turn(vec![
+        (fixed_coupons(9, 3, 2, 601, BAD, BAD), Some(3)),
+        (fixed_coupons(1, 3, 2, 601, BAD, BAD), Some(4)),
+        (fixed_coupons(1, 2, 2, 601, BAD, BAD), Some(5)),
+        (fixed_coupons(1, 2, 12, 51, BAD, BAD), Some(5)),
+        (fixed_coupons(1, 2, 12, 50, BAD, BAD), Some(6)),
+        (fixed_coupons(1, 2, 12, 50, BILLION, BAD), Some(6)),
+        (fixed_coupons(1, 2, 12, 50, BILLION, BILLION), Some(14)),
+        (fixed_coupons(1, 2, 12, 50, 20_000_000, 0), None),
+    ]);
+}
+
+#[test]
+fn floating_in_turn() {
+    assert_turn(vec![
+        (floating(9, 3, 601, 31, BAD, BAD), Some(3)),
+        (floating(1, 3, 601, 31, BAD, BAD), Some(4)),
+        (floating(1, 2, 601, 31, BAD, BAD), Some(5)),
+        (floating(1, 2, 600, 31, BAD, BAD), Some(5)),
+        (floating(1, 2, 600, 30, BAD, BAD), Some(6)),
+        (floating(1, 2, 600, 30, BILLION, BAD), Some(6)),
+        (floating(1, 2, 600, 30, BILLION, BILLION), Some(14)),
+        (floating(1, 2, 600, 30, BILLION, 0), None),
+    ]);
+}
+
+#[test]
+fn non_maturity_deposit_in_turn() {
+    assert_turn(vec![
+        (deposit(9, 4, BAD, BAD_LADDER), Some(3)),
+        (deposit(1, 4, BAD, BAD_LADDER), Some(8)),
+        (deposit(1, 1, BAD, NIL), Some(6)),
+        (deposit(1, 1, 100, in_buckets(&[(19, BAD)])), Some(6)),
+        (deposit(1, 1, 100, in_buckets(&[(19, 91)])), Some(9)),
+        (deposit(1, 1, 100, in_buckets(&[(19, 90)])), Some(10)),
+        (deposit(1, 1, 100, in_buckets(&[(11, 90)])), None),
+    ]);
+    let full = single_flow(1, 1, 0, 0, BILLION);
+    let behind = |core: [u32; 19]| refused(&[full.clone(), deposit(1, 1, 100, core)]);
+    assert_eq!(behind(in_buckets(&[(19, 90)])), Some((10, 10)), "10 before 14");
+    assert_eq!(behind(in_buckets(&[(11, 90)])), Some((14, 10)));
+}
+
+#[test]
+fn prepayable_loan_in_turn() {
+    let billions = [BILLION; 19];
+    assert_turn(vec![
+        (loan(9, 10_001, BAD_LADDER, BAD_LADDER), Some(3)),
+        (loan(1, 10_001, BAD_LADDER, BAD_LADDER), Some(7)),
+        (loan(1, 10_000, in_buckets(&[(19, BAD)]), NIL), Some(6)),
+        (loan(1, 10_000, NIL, in_buckets(&[(19, BAD)])), Some(6)),
+        (loan(1, 10_000, in_buckets(&[(1, BILLION)]), billions), Some(11)),
+        (loan(1, 10_000, billions, billions), Some(14)),
+        (loan(1, 10_000, in_buckets(&[(19, 1)]), in_buckets(&[(19, 1)])), None),
+    ]);
+}
+
+#[test]
+fn term_deposit_and_add_on_in_turn() {
+    assert_turn(vec![
+        (term_deposit(9, 10_001, BAD_LADDER), Some(3)),
+        (term_deposit(1, 10_001, BAD_LADDER), Some(7)),
+        (term_deposit(1, 10_000, in_buckets(&[(1, BILLION), (19, BAD)])), Some(6)),
+        (term_deposit(1, 10_000, in_buckets(&[(1, BILLION), (19, 1)])), Some(14)),
+        (options(9, 3, [i32::MIN; 6]), Some(3)),
+        (options(1, 3, [i32::MIN; 6]), Some(4)),
+        (options(1, 2, [i32::MIN; 6]), Some(6)),
+        (options(1, 2, [0, 0, 0, 0, 0, i32::MIN]), Some(6)),
+        (options(1, 2, [-1_000_000_000; 6]), None),
+    ]);
+}
+
+#[test]
+fn curve_in_turn() {
+    assert_turn(vec![
+        (curve(9, [300_001; 19], [1_001; 3]), Some(3)),
+        (curve(1, [300_001; 19], [1_001; 3]), Some(12)),
+        (curve(2, [300_001; 19], [1_001; 3]), Some(13)),
+        (curve(2, [300_000; 19], [1_001; 3]), Some(13)),
+        (curve(2, [300_000; 19], [1_000; 3]), Some(13)),
+        (curve(2, [100_000; 19], [1_000; 3]), None),
+    ]);
+}
+
+#[test]
+fn rooms_then_length_then_capital_then_records() {
+    let long = vec![0; 65_529];
+    let request = |report_room, ledger_room, book, capital| Request { book, capital, report_room, ledger_room };
+    let refused = |request: Request| request.answer().refused();
+    assert_eq!(refused(request(57, 1_064, &long, 0)), Some((18, 0)));
+    assert_eq!(refused(request(58, 1_063, &long, 0)), Some((18, 0)));
+    assert_eq!(refused(request(58, 1_064, &long, 0)), Some((17, 0)));
+    assert_eq!(refused(request(58, 1_064, &long[..65_528], 0)), Some((16, 0)));
+    assert_eq!(refused(request(58, 1_064, &long[..65_528], 1)), Some((1, 0)));
+    assert_eq!(refused(request(58, 1_064, &[], 1)), None);
+}
+
+#[test]
+fn the_first_record_with_a_fault_decides() {
+    let flow = single_flow(3, 1, 0, 0, 1);
+    assert_eq!(refused(&[flow.clone(), single_flow(1, 3, 0, 0, 1), vec![0]]), Some((4, 10)));
+    assert_eq!(refused(&[flow.clone(), flow.clone(), vec![0]]), Some((1, 20)), "15 waits for the last record");
+    assert_eq!(refused(&[flow.clone(), flow]), Some((15, 3)));
+}
