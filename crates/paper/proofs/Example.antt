@@ -55,7 +55,7 @@ taken T ok = rw (example-short, ok, example-walked, example-covered)
 
 -- ---- its report
 
-unfoldable changes : List ℤ
+unfoldable pub changes : List ℤ
 changes = pos 632121 ∷ negsuc 1718281 ∷ replicate 46 (pos 0)
 
 -- sums, measure, worst, total tolerance, verdict

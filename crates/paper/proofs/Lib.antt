@@ -34,3 +34,4 @@ pub mod Accepted
 pub mod Written
 pub mod Example
 pub mod TwoCurrencies
+pub mod Printed

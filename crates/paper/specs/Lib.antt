@@ -17,3 +17,4 @@ pub mod Verdict
 pub mod Book
 pub mod Exact
 pub mod Demand3
+pub mod Program
