@@ -29,7 +29,7 @@ pub record Agree (before after : SoFar) : Type 0 where
   pub optionSize : (c i : ℕ) → 1 ≤ c → c ≤ currencies → 1 ≤ i → i ≤ 6 → before .optionSize c i ≡ after .optionSize c i
 
 -- one after the other, the second by what the first accepted
-bind-ext : {A B : Type 0} (m : Checked A) (next next' : A → Checked B) → ((a : A) → m ≡ accepted a → next a ≡ next' a) → (m >>= next) ≡ (m >>= next')
+pub bind-ext : {A B : Type 0} (m : Checked A) (next next' : A → Checked B) → ((a : A) → m ≡ accepted a → next a ≡ next' a) → (m >>= next) ≡ (m >>= next')
 unfolding _>>=_
 bind-ext (accepted a) next next' h = h a refl
 bind-ext (refused r place) next next' h = refl

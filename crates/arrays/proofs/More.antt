@@ -40,7 +40,7 @@ nothing-kept = simp (tabulate-const (pos 0) 48, tabulate-const (pos 0) cells, ta
 
 -- ---- one record more
 
-same-arrays : {l r a l' r' a' : List ℤ} {s o s' o' : List ℕ} → l ≡ l' → r ≡ r' → a ≡ a' → s ≡ s' → o ≡ o'
+pub same-arrays : {l r a l' r' a' : List ℤ} {s o s' o' : List ℕ} → l ≡ l' → r ≡ r' → a ≡ a' → s ≡ s' → o ≡ o'
     → _≡_ {A = Arrays} (record { ledger = l; rates = r; addOns = a; sizes = s; optionSizes = o })
     (record { ledger = l'; rates = r'; addOns = a'; sizes = s'; optionSizes = o' })
 same-arrays e f g h i = cc

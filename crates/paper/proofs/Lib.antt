@@ -15,6 +15,7 @@ pub mod Numbers
 pub mod Known
 pub mod Ranges
 pub mod Sound
+pub mod KindOf
 pub mod Walked
 -- demand 3: the series, the factor, a change, the measure, the verdict, each against the exact one
 pub mod Terms

@@ -96,7 +96,7 @@ amounts-known : (body : List ℕ) (o : ℕ) → Known Amounts (each (amountAt bo
 amounts-known body o = each-known (λ p. field-known amount-range _ _ _) buckets o
 
 module _ (curved : ℕ → Bool) (body : List ℕ) where
-  single-sound : Known (Sound curved) (decodeSingle body)
+  pub single-sound : Known (Sound curved) (decodeSingle body)
   unfolding decodeSingle Sound SoundFlows
   single-sound =
       chain (field-known currency-range _ _ _) (λ c hc.
@@ -106,7 +106,7 @@ module _ (curved : ℕ → Bool) (body : List ℕ) where
       chain (field-known amount-range _ _ _) (λ a ha.
       known (hc, (hs, (hm, hd), ha)))))))
 
-  coupons-sound : Known (Sound curved) (decodeCoupons body)
+  pub coupons-sound : Known (Sound curved) (decodeCoupons body)
   unfolding decodeCoupons Sound SoundFlows
   coupons-sound =
       chain (field-known currency-range _ _ _) (λ c hc.
@@ -117,7 +117,7 @@ module _ (curved : ℕ → Bool) (body : List ℕ) where
       chain (field-known amount-range _ _ _) (λ b hb.
       known (hc, (hs, hp, hn, ha, hb))))))))
 
-  floating-sound : Known (Sound curved) (decodeFloating body)
+  pub floating-sound : Known (Sound curved) (decodeFloating body)
   unfolding decodeFloating Sound SoundFlows
   floating-sound =
       chain (field-known currency-range _ _ _) (λ c hc.
@@ -128,7 +128,7 @@ module _ (curved : ℕ → Bool) (body : List ℕ) where
       chain (field-known amount-range _ _ _) (λ b hb.
       known (hc, (hs, (hm, hd), ha, hb))))))))
 
-  deposit-sound : Known (Sound curved) (decodeDeposit body)
+  pub deposit-sound : Known (Sound curved) (decodeDeposit body)
   unfolding decodeDeposit Sound SoundFlows
   deposit-sound =
       chain (field-known currency-range _ _ _) (λ c hc.
@@ -139,7 +139,7 @@ module _ (curved : ℕ → Bool) (body : List ℕ) where
       tested _ _ _ _ (λ f.
       known (hc, (hg, ha, hs, core-within g a core e))))))))
 
-  loan-sound : Known (Sound curved) (decodeLoan body)
+  pub loan-sound : Known (Sound curved) (decodeLoan body)
   unfolding decodeLoan Sound SoundFlows scheduleOver
   loan-sound =
       chain (field-known currency-range _ _ _) (λ c hc.
@@ -150,7 +150,7 @@ module _ (curved : ℕ → Bool) (body : List ℕ) where
       tested _ _ _ _ (λ f.
       known (hc, (hs, hp, hx, none-bad (interestAlone ps xs) e, ltb-false _ _ f))))))))
 
-  term-deposit-sound : Known (Sound curved) (decodeTermDeposit body)
+  pub term-deposit-sound : Known (Sound curved) (decodeTermDeposit body)
   unfolding decodeTermDeposit Sound SoundFlows
   term-deposit-sound =
       chain (field-known currency-range _ _ _) (λ c hc.
@@ -158,7 +158,7 @@ module _ (curved : ℕ → Bool) (body : List ℕ) where
       chain (amounts-known body 3) (λ xs hx.
       known (hc, (hs, hx)))))
 
-  option-sound : Known (Sound curved) (decodeOption body)
+  pub option-sound : Known (Sound curved) (decodeOption body)
   unfolding decodeOption Sound
   option-sound =
       chain (field-known currency-range _ _ _) (λ c hc.
@@ -166,7 +166,7 @@ module _ (curved : ℕ → Bool) (body : List ℕ) where
       chain (each-known (λ o. field-known option-range _ _ _) 6 2) (λ vs hv.
       known (hc, hs, hv))))
 
-  curve-sound : Known (Sound curved) (decodeCurve curved body)
+  pub curve-sound : Known (Sound curved) (decodeCurve curved body)
   unfolding decodeCurve Sound secondCurve
   curve-sound =
       chain (field-known currency-range _ _ _) (λ c hc.

@@ -1,0 +1,189 @@
+// Curves and shocks (01, "Curves and shocks"; SRP31.90 to 31.93). Rates are millionths.
+ghost use mathlib.Core.Path.{_≡_};
+ghost use Prim.Native.Nat.{_<_, _≤_};
+ghost use lib.IntN.{pos, natAbs, _*ℤ_};
+ghost use lib.ListN.{length, getD};
+ghost use Rattle.laws.specs.Tests.{first};
+ghost use Rattle.laws.specs.Nearest.{nearestℤ};
+ghost use Rattle.laws.specs.Lists.{tabulate};
+ghost use Rattle.paper.specs.Scales.{billion};
+ghost use Rattle.paper.specs.Curve.{rateChanges, shockedRate};
+ghost use Rattle.paper.specs.TurnedDown.{badShocked};
+ghost use Rattle.paper.proofs.Ranges.{Ranged};
+ghost use Rattle.paper.proofs.Known.{Listed};
+ghost use Rattle.curve.specs.Shocked.{shocksOf, curveOf, Sized, twisted, shortShares, shockedSection};
+use ladder::Millionths;
+
+// Shock sizes, in basis points.
+pub struct Shocks {
+    pub parallel: u32,
+    pub short: u32,
+    pub long: u32,
+}
+
+// s, in billionths, of each bucket.
+const SHORT_SHARES: [u32; 19] = [
+    999300245,
+    989629152,
+    959181464,
+    910510361,
+    855345327,
+    803522574,
+    731615629,
+    645648526,
+    535261429,
+    416862020,
+    324652467,
+    252839596,
+    196911675,
+    153354967,
+    119432968,
+    93014489,
+    43936934,
+    12588142,
+    1930454,
+];
+
+fn short_shares() -> [u32; 19]
+    ensures { λ r. ⌜ r ≡ shortShares ⌝ }
+{
+    SHORT_SHARES
+}
+
+// Over a billion, halves away from zero.
+fn rounded(z: i64) -> i64
+    requires { ⌜ natAbs z ≤ 200_000_000_000_000 ⌝ }
+    ensures { λ r. ⌜ (r ≡ nearestℤ z billion) × (natAbs r ≤ 200_000) ⌝ }
+{
+    if z < 0 {
+        (z - 500_000_000) / 1_000_000_000
+    } else {
+        (z + 500_000_000) / 1_000_000_000
+    }
+}
+
+// So much of a shock, where its share is so many billionths.
+fn weighed(weight: i64, shock: u32, share: i64) -> i64
+    requires { ⌜ (natAbs weight ≤ 100) × ((shock ≤ 1000) × (natAbs share ≤ billion)) ⌝ }
+    ensures { λ r. ⌜ (r ≡ weight *ℤ pos shock *ℤ share) × (natAbs r ≤ 100_000_000_000_000) ⌝ }
+{
+    weight * (shock as i64) * share
+}
+
+// A change that twists the curve: the short shock goes by s, and the long one by the rest.
+fn twist(shocks: Shocks, share: u32, short: i64, long: i64) -> Millionths
+    requires { ⌜ Sized shocks ⌝ }
+    requires { ⌜ (share ≤ billion) × ((natAbs short ≤ 100) × (natAbs long ≤ 100)) ⌝ }
+    ensures { λ r. ⌜ r .0 ≡ twisted (shocksOf shocks) share short long ⌝ }
+    ensures { λ r. ⌜ natAbs (r .0) ≤ 200_000 ⌝ }
+{
+    let s = share as i64;
+    let by_short = weighed(short, shocks.short, s);
+    let by_long = weighed(long, shocks.long, 1_000_000_000 - s);
+    Millionths(rounded(by_short + by_long))
+}
+
+// The change of a scenario where the short share is s: none for the base.
+fn change(shocks: Shocks, share: u32, scenario: usize) -> Millionths
+    requires { ⌜ Sized shocks ⌝ }
+    requires { ⌜ share ≤ billion ⌝ }
+    ensures { λ r. ⌜ r .0 ≡ getD (rateChanges (shocksOf shocks) share) scenario (pos 0) ⌝ }
+    ensures { λ r. ⌜ natAbs (r .0) ≤ 200_000 ⌝ }
+{
+    let p = shocks.parallel as i64;
+    match scenario {
+        1 => Millionths(100 * p),
+        2 => Millionths(-100 * p),
+        3 => twist(shocks, share, -65, 90),
+        4 => twist(shocks, share, 80, -60),
+        5 => twist(shocks, share, 100, 0),
+        6 => twist(shocks, share, -100, 0),
+        _ => Millionths(0),
+    }
+}
+
+// The rate of a scenario in bucket k + 1: the base rate and the change.
+fn shocked(
+    rates: &[i64],
+    shocks: Shocks,
+    shares: &[u32; 19],
+    scenario: usize,
+    k: usize,
+) -> Millionths
+    requires { ⌜ Listed Ranged 19 (now rates) ⌝ }
+    requires { ⌜ Sized shocks ⌝ }
+    requires { ⌜ (now shares ≡ shortShares) × (k < 19) ⌝ }
+    ensures { λ r. ⌜ r .0 ≡ shockedRate (curveOf (now (rates .entry)) shocks) scenario k ⌝ }
+{
+    let base = rates[k];
+    let moved = change(shocks, shares[k], scenario);
+    Millionths(base + moved.0)
+}
+
+// The nineteen rates of one scenario.
+pub fn fill_scenario(rates: &[i64], shocks: Shocks, scenario: usize, part: &mut [i64])
+    requires { ⌜ Listed Ranged 19 (now rates) ⌝ }
+    requires { ⌜ Sized shocks ⌝ }
+    requires { ⌜ length (now part) ≡ 19 ⌝ }
+    ensures { λ _. ⌜ now (part .exit) ≡ tabulate (shockedRate (curveOf (now (rates .entry)) shocks) scenario) 19 ⌝ }
+{
+    let shares = short_shares();
+    let mut k = 0;
+    while k < 19 {
+        let rate = shocked(rates, shocks, &shares, scenario, k);
+        let cell = rate.0;
+        part[k] = cell;
+        k += 1;
+    }
+}
+
+// The seven scenarios, the base first: scenario i from cell 19 i on.
+pub fn fill_section(rates: &[i64], shocks: Shocks, section: &mut [i64])
+    requires { ⌜ Listed Ranged 19 (now rates) ⌝ }
+    requires { ⌜ Sized shocks ⌝ }
+    requires { ⌜ length (now section) ≡ 133 ⌝ }
+    ensures { λ _. ⌜ now (section .exit) ≡ shockedSection (curveOf (now (rates .entry)) shocks) ⌝ }
+{
+    let mut scenario = 0;
+    while scenario < 7 {
+        let start = 19 * scenario;
+        let end = start + 19;
+        fill_scenario(rates, shocks, scenario, &mut section[start..end]);
+        scenario += 1;
+    }
+}
+
+// Some scenario's rate in bucket k + 1 is out of range.
+fn out_of_range(rates: &[i64], shocks: Shocks, shares: &[u32; 19], k: usize) -> bool
+    requires { ⌜ Listed Ranged 19 (now rates) ⌝ }
+    requires { ⌜ Sized shocks ⌝ }
+    requires { ⌜ (now shares ≡ shortShares) × (k < 19) ⌝ }
+    ensures { λ r. ⌜ r ≡ badShocked (curveOf (now (rates .entry)) shocks) k ⌝ }
+{
+    let mut scenario = 1;
+    while scenario < 7 {
+        let rate = shocked(rates, shocks, shares, scenario, k);
+        if rate.0 < -50_000 || 300_000 < rate.0 {
+            return true;
+        }
+        scenario += 1;
+    }
+    false
+}
+
+// The first bucket, from 0, in which some scenario's rate is out of range; 19 where there is none.
+pub fn first_out_of_range(rates: &[i64], shocks: Shocks) -> usize
+    requires { ⌜ Listed Ranged 19 (now rates) ⌝ }
+    requires { ⌜ Sized shocks ⌝ }
+    ensures { λ r. ⌜ r ≡ first (badShocked (curveOf (now (rates .entry)) shocks)) 0 19 ⌝ }
+{
+    let shares = short_shares();
+    let mut k = 0;
+    while k < 19 {
+        if out_of_range(rates, shocks, &shares, k) {
+            return k;
+        }
+        k += 1;
+    }
+    19
+}

@@ -1,0 +1,45 @@
+-- How far midpoints and exponents reach.
+use Prim.Native.Nat.{ℕ, zero-le, _≤_}
+use mathlib.Core.Logic.{⊎-elim}
+use mathlib.Core.Path.{_≡_, refl, sym, ap, _∙_}
+use native.Mathlib.Nat.{mul-le-mul}
+use native.Mathlib.Omega.{arith}
+use borrow.Author.Tests.{leb-true}
+use lib.IntN.{ℤ, pos, natAbs, _*ℤ_}
+use lib.ListN.{List·getD-eq-default}
+use Rattle.laws.specs.Tests.{_upTo_, all}
+use Rattle.laws.specs.Integers.{up, down}
+use Rattle.laws.proofs.Tests.{lt-or-ge, all-at}
+use Rattle.laws.proofs.Integers.{abs-is, mul-up, mul-down}
+use Rattle.laws.proofs.Order.{ints}
+use Rattle.paper.specs.Ladder.{midpoints, midpoint}
+use Rattle.paper.specs.Change.{exponent}
+use Rattle.paper.proofs.Ranges.{Ranged}
+use Rattle.ladder.specs.Reach.{OnLadder, IsExponent}
+
+pub midpoint-most : (k : ℕ) → midpoint k ≤ 250000
+unfolding midpoints all
+midpoint-most k =
+    ⊎-elim (λ h. leb-true _ _ (all-at (λ j. midpoint j upTo 250000) 0 19 refl k zero-le h))
+    (λ h. rw (List·getD-eq-default midpoints 0 {n = k} h) (omega arith)) (lt-or-ge k 19)
+
+module _ (rate years : ℤ) (ranged : Ranged rate) (on : OnLadder years) where
+  above : up (rate *ℤ years) ≤ 75000000000
+  above = rw (on .1) (omega (arith, mul-up rate (pos (midpoint (on .0))), mul-le-mul (ranged .high) (midpoint-most (on .0))))
+
+  beneath : down (rate *ℤ years) ≤ 12500000000
+  beneath = rw (on .1) (omega (arith, mul-down rate (pos (midpoint (on .0))), mul-le-mul (ranged .low) (midpoint-most (on .0))))
+
+  pub product-small : natAbs (rate *ℤ years) ≤ 87500000000
+  product-small = omega (arith, abs-is (rate *ℤ years), above, beneath)
+
+  pub exponent-is : IsExponent rate years (rate *ℤ years)
+  unfolding exponent
+  exponent-is = record {
+    is = λ k e. ap (λ (y : ℤ). rate *ℤ y) e;
+    reach = record { low = omega (ints, beneath); high = omega (ints, above) };
+  }
+
+-- what the contract of an exponent permits is one number
+pub one-exponent : {rate years X Y : ℤ} → OnLadder years → IsExponent rate years X → IsExponent rate years Y → X ≡ Y
+one-exponent on x y = x .is (on .0) (on .1) ∙ sym (y .is (on .0) (on .1))

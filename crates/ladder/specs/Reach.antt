@@ -1,0 +1,16 @@
+-- What an exponent is made of, and how far it reaches.
+use Prim.Native.Nat.{ℕ}
+use mathlib.Core.Path.{_≡_}
+use lib.IntN.{ℤ, pos}
+use Rattle.paper.specs.Ladder.{midpoint}
+use Rattle.paper.specs.Change.{exponent}
+use Rattle.paper.proofs.FactorClose.{InRange}
+
+-- the midpoint of some bucket
+abbrev pub OnLadder : ℤ → Type 0
+OnLadder years = (k : ℕ) × (years ≡ pos (midpoint k))
+
+-- X is the exponent of the rate in each bucket that has this midpoint
+pub record IsExponent (rate years X : ℤ) : Type 0 where
+  pub is : (k : ℕ) → years ≡ pos (midpoint k) → X ≡ exponent rate k
+  pub reach : InRange X
