@@ -1,0 +1,20 @@
+-- One byte is a store at its place.
+use borrow.Author.Needs.{needs}
+use Rattle.text.proofs.Writing.{wrote-byte}
+use Rattle.text.proofs.bytes.put_byte.Statement.{statement}
+use Rattle.text.proofs.bytes.put_byte.Tie as tie
+
+slice-write-out : tie.Need-slice-write-out
+slice-write-out c = search needs
+
+add-result : tie.Need-add-result
+add-result c = search needs
+
+same-length : tie.Need-same-length
+same-length c = search needs
+
+returns : tie.Need-returns
+returns c = wrote-byte _ _ _ (search needs)
+
+pub put-byte-spec : {M : Type 1} → statement M
+put-byte-spec = tie.close (tie.spec slice-write-out add-result same-length returns)

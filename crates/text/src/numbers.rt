@@ -1,0 +1,51 @@
+// Numbers in decimal.
+use crate::bytes::put_byte;
+ghost use Prim.Native.Nat.{_+_, _≤_};
+ghost use mathlib.Core.Path.{_≡_};
+ghost use lib.IntN.{natAbs};
+ghost use lib.ListN.{length};
+ghost use Rattle.paper.specs.Program.{decimal, signedDecimal};
+ghost use Rattle.text.specs.Written.{Wrote};
+
+// Twenty digits hold every u64. The digits before the last are those of a tenth of the number.
+pub fn put_decimal(out: &mut [u8], at: usize, n: u64) -> usize
+    requires { ⌜ at + 20 ≤ length (now out) ⌝ }
+    ensures { λ r. ⌜ Wrote (decimal n) at (now (out .entry)) r (now (out .exit)) ⌝ }
+{
+    if n < 10 {
+        return put_byte(out, at, digit(n));
+    }
+    let last = put_decimal(out, at, n / 10);
+    put_byte(out, last, digit(n % 10))
+}
+
+fn digit(d: u64) -> u8
+    requires { ⌜ d ≤ 9 ⌝ }
+    ensures { λ r. ⌜ r ≡ 48 + d ⌝ }
+{
+    48 + d as u8
+}
+
+// The magnitude of the least i64 is no i64, so one is added on the other side of zero.
+fn magnitude(z: i64) -> u64
+    ensures { λ r. ⌜ r ≡ natAbs z ⌝ }
+{
+    if z < 0 {
+        (-(z + 1)) as u64 + 1
+    } else {
+        z as u64
+    }
+}
+
+// With a minus sign below zero.
+pub fn put_number(out: &mut [u8], at: usize, z: i64) -> usize
+    requires { ⌜ at + 21 ≤ length (now out) ⌝ }
+    ensures { λ r. ⌜ Wrote (signedDecimal z) at (now (out .entry)) r (now (out .exit)) ⌝ }
+{
+    let size = magnitude(z);
+    if z < 0 {
+        let digits = put_byte(out, at, b'-');
+        return put_decimal(out, digits, size);
+    }
+    put_decimal(out, at, size)
+}
