@@ -1,0 +1,129 @@
+-- `fill_report` meets its contract. The invariant is `Done`: the figures of the currencies so far are in their lists. A currency without a curve
+-- has nothing in it, so the zeros that stand there are its figures.
+use Prim.Native.Nat.{_+_, _-_, _≤_}
+use mathlib.Core.Logic.{⊎-elim}
+use mathlib.Core.Path.{_≡_, sym, _∙_}
+use native.Mathlib.Omega.{arith}
+use borrow.Author.Needs.{needs}
+use Rattle.paper.specs.Records.{currencies}
+use Rattle.paper.specs.Ledger.{Totals}
+use Rattle.arrays.specs.Rooms.{curvedBy, totalsBy}
+use Rattle.valuation.specs.Bounds.{Bounds}
+use Rattle.valuation.proofs.Done.{Done, done-none, changes-long, tolerances-long, done-more, done-skip, change-figures, tolerance-figures, report-done}
+use Rattle.valuation.proofs.fill_report.Statement.{statement}
+use Rattle.valuation.proofs.fill_report.Tie as tie
+
+abbrev Inv-loop : tie.InvT-loop
+Inv-loop ledger rates add-ons curved tier1 table report midpoints changes₀ tolerances₀ c₀ changes tolerances c =
+    (c ≤ currencies) × Done (totalsBy ledger add-ons rates) c changes tolerances
+
+abbrev μ-loop : tie.MeasureT-loop
+μ-loop ledger rates add-ons curved tier1 table report midpoints changes₀ tolerances₀ c₀ changes tolerances c = currencies - c
+
+module _ (s : tie.Start Inv-loop μ-loop) where
+  abbrev t : Totals
+  t = totalsBy (s .args .ledger .now) (s .args .add-ons .now) (s .args .rates .now)
+
+  bounds : Bounds t (curvedBy (s .args .curved))
+  bounds = s .pre .1 .1
+
+-- after the last currency
+all-done : (c : tie.After-loop Inv-loop μ-loop) → Done (t (c .before .before .before)) currencies (c .before .loop .changes) (c .before .loop .tolerances)
+all-done c =
+    let e : c .before .loop .c ≡ currencies = omega arith in
+    rw e at (c .before .loop .inv .1)
+
+midpoints-requires : tie.Need-midpoints-requires Inv-loop μ-loop
+midpoints-requires c κs = search needs
+
+loop-holds : tie.Need-loop-holds Inv-loop μ-loop
+loop-holds c = (omega arith, done-none (t (c .before)))
+
+has-curve-requires : tie.Need-has-curve-requires Inv-loop μ-loop
+has-curve-requires c κs = search needs
+
+slice-aggregate-fill-currency : tie.Need-slice-aggregate-fill-currency Inv-loop μ-loop
+slice-aggregate-fill-currency c = search needs
+
+slice-aggregate-fill-currency-2 : tie.Need-slice-aggregate-fill-currency-2 Inv-loop μ-loop
+slice-aggregate-fill-currency-2 c = sym (changes-long (c .before .before .before .before .before .loop .inv .1))
+
+slice-aggregate-fill-currency-3 : tie.Need-slice-aggregate-fill-currency-3 Inv-loop μ-loop
+slice-aggregate-fill-currency-3 c = sym (tolerances-long (c .before .before .before .before .before .before .loop .inv .1))
+
+fill-currency-requires : tie.Need-fill-currency-requires Inv-loop μ-loop
+fill-currency-requires c κs =
+    let b = c .before .before .before in
+    let at = b .before .before .before in
+    let s = at .before .before in
+    let n = at .loop .c in
+    let curve = sym (b .before .has-curve .ensures) ∙ b .if1 .taken in (
+      (search needs, search needs, search needs, omega arith),
+      (
+        (changes-long (at .loop .inv .1), tolerances-long (at .loop .inv .1)),
+        (bounds s .bounded (n + 1) (omega arith) (omega arith) curve, (at .before .midpoints .ensures, s .pre .1 .0 .1)),
+      ),
+    )
+
+add-c : tie.Need-add-c Inv-loop μ-loop
+add-c c = search needs
+
+loop-less : tie.Need-loop-less Inv-loop μ-loop
+loop-less c = search needs
+
+loop-again : tie.Need-loop-again Inv-loop μ-loop
+loop-again c =
+    let at = c .before .before .before in
+    let s = at .before .before in
+    let n = at .loop .c in
+    let d = at .loop .inv .1 in
+    let tested = sym (c .before .has-curve .ensures) in (
+      omega arith,
+      ⊎-elim
+          (λ w. done-more d (omega arith) (w .7 ∙ w .4 .ensures .0) (w .8 ∙ w .4 .ensures .1))
+          (λ w. rw (w .1, w .2) (done-skip d (omega arith) (bounds s .nothing (n + 1) (omega arith) (omega arith) (tested ∙ w .0 .left))))
+          (c .if1 .came),
+    )
+
+slice-aggregate-write-report : tie.Need-slice-aggregate-write-report Inv-loop μ-loop
+slice-aggregate-write-report c = sym (changes-long (c .before .before .loop .inv .1))
+
+slice-aggregate-write-report-2 : tie.Need-slice-aggregate-write-report-2 Inv-loop μ-loop
+slice-aggregate-write-report-2 c = sym (tolerances-long (c .before .before .before .loop .inv .1))
+
+write-report-requires : tie.Need-write-report-requires Inv-loop μ-loop
+write-report-requires c κs =
+    let l = c .before .before .before in
+    let s = l .before .before .before in
+    ((change-figures (t s) _ (bounds s) (all-done l), tolerance-figures (t s) _ (bounds s) (all-done l)), (search needs, search needs))
+
+same-length : tie.Need-same-length Inv-loop μ-loop
+same-length c = search needs
+
+returns : tie.Need-returns Inv-loop μ-loop
+returns c =
+    let l = c .before .before .before .before .before in
+    let s = l .before .before .before in
+    c .before .write-report .ensures ∙ report-done (t s) _ (bounds s) (all-done l) (s .args .tier1)
+
+pub fill-report-spec : {M : Type 1} → statement M
+fill-report-spec =
+    tie.close
+    (tie.spec
+    Inv-loop
+    μ-loop
+    midpoints-requires
+    loop-holds
+    has-curve-requires
+    slice-aggregate-fill-currency
+    slice-aggregate-fill-currency-2
+    slice-aggregate-fill-currency-3
+    fill-currency-requires
+    add-c
+    loop-less
+    loop-again
+    slice-aggregate-write-report
+    slice-aggregate-write-report-2
+    write-report-requires
+    same-length
+    returns)

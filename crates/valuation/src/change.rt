@@ -1,0 +1,164 @@
+// One currency: its changes in economic value, and the tolerance of each. Its own parts of the arrays, 133 cells, 133 rates and 6 add-ons, are
+// read as currency 1's.
+ghost use mathlib.Core.Path.{_≡_};
+ghost use mathlib.Core.List.{[]};
+ghost use Prim.Native.Nat.{ℕ, _+_, _*_, _<_, _≤_};
+ghost use lib.IntN.{natAbs};
+ghost use lib.ListN.{length};
+ghost use Rattle.laws.specs.Lists.{tabulateFrom};
+ghost use Rattle.laws.specs.Nearest.{nearestℤ};
+ghost use Rattle.paper.specs.Scales.{billion};
+ghost use Rattle.paper.specs.Ladder as Ladder;
+ghost use Rattle.paper.specs.Records.{currencies};
+ghost use Rattle.paper.specs.Flow.{scenarios};
+ghost use Rattle.paper.specs.Ledger as Ledger;
+ghost use Rattle.paper.specs.Change.{value, change, netSize, toleranceOf};
+ghost use Rattle.factor.specs.Table.{rows};
+ghost use Rattle.arrays.specs.Rooms.{totalsBy};
+ghost use Rattle.valuation.specs.Bounds.{BoundedRow, Bounded};
+ghost use Rattle.valuation.specs.Figures as Figures;
+ghost use Rattle.valuation.specs.Figures.{withFigures};
+use ladder::Exponent;
+use ladder::Millionths;
+use ladder::TenThousandthYears;
+use ladder::Thousands;
+
+const BUCKETS: usize = 19;
+
+// A currency's cells.
+const SECTION: usize = 7 * BUCKETS;
+
+fn magnitude(z: i64) -> u64
+    requires { ⌜ natAbs z ≤ billion ⌝ }
+    ensures { λ r. ⌜ r ≡ natAbs z ⌝ }
+{
+    if z < 0 { (0 - z) as u64 } else { z as u64 }
+}
+
+// The sum of magnitudes of a scenario's net flows.
+fn net_size(cells: &[i64], scenario: usize) -> u64
+    requires { ⌜ (length (now cells) ≡ Ledger.sectionSize) × (scenario < scenarios) ⌝ }
+    requires { ⌜ netSize (totalsBy (now cells) [] []) 1 scenario ≤ billion ⌝ }
+    ensures { λ r. ⌜ r ≡ netSize (totalsBy (now (cells .entry)) [] []) 1 scenario ⌝ }
+{
+    let start = BUCKETS * scenario;
+    let mut size: u64 = 0;
+    for k in 0..BUCKETS {
+        size += magnitude(cells[start + k]);
+    }
+    size
+}
+
+// 26 A / 1,000,000,000 is rounded up.
+fn tolerance_of(size: u64) -> u64
+    requires { ⌜ size ≤ 2 * billion ⌝ }
+    ensures { λ r. ⌜ r ≡ toleranceOf size ⌝ }
+{
+    if size == 0 {
+        0
+    } else {
+        1 + (26 * size + 999_999_999) / 1_000_000_000
+    }
+}
+
+// The sum of flow times factor, in billionths.
+fn value_of(
+    cells: &[i64],
+    rates: &[i64],
+    scenario: usize,
+    midpoints: &[u32],
+    table: &[[u64; 10]; 11],
+) -> i64
+    requires { ⌜ (length (now cells) ≡ Ledger.sectionSize) × (length (now rates) ≡ Ledger.sectionSize) × (scenario < scenarios) ⌝ }
+    requires { ⌜ BoundedRow (totalsBy (now cells) [] (now rates)) 1 scenario ⌝ }
+    requires { ⌜ (now midpoints ≡ Ladder.midpoints) × (now table ≡ rows) ⌝ }
+    ensures { λ r. ⌜ r ≡ value (totalsBy (now (cells .entry)) [] (now (rates .entry))) 1 scenario ⌝ }
+{
+    let start = BUCKETS * scenario;
+    let mut sum: i64 = 0;
+    for k in 0..BUCKETS {
+        let rate = Millionths(rates[start + k]);
+        let exponent = Exponent::of(rate, TenThousandthYears::of(midpoints[k]));
+        sum += cells[start + k] * (factor::factor(table, exponent) as i64);
+    }
+    sum
+}
+
+// Billionths of a thousand, divided by a billion, halves away from zero.
+fn rounded(billionths: i64) -> Thousands
+    requires { ⌜ natAbs billionths ≤ 7_000_000_000 * billion ⌝ }
+    ensures { λ r. ⌜ r .0 ≡ nearestℤ billionths billion ⌝ }
+{
+    if billionths < 0 {
+        let below = (billionths - 500_000_000) / 1_000_000_000;
+        return Thousands(below);
+    }
+    let above = (billionths + 500_000_000) / 1_000_000_000;
+    Thousands(above)
+}
+
+// The six changes.
+fn fill_changes(
+    cells: &[i64],
+    rates: &[i64],
+    add_ons: &[i64],
+    midpoints: &[u32],
+    table: &[[u64; 10]; 11],
+    changes: &mut [i64],
+)
+    requires { ⌜ (length (now cells) ≡ Ledger.sectionSize) × (length (now rates) ≡ Ledger.sectionSize) × (length (now «add_ons») ≡ 6) × (length (now changes) ≡ 6) ⌝ }
+    requires { ⌜ Bounded (totalsBy (now cells) (now «add_ons») (now rates)) 1 ⌝ }
+    requires { ⌜ (now midpoints ≡ Ladder.midpoints) × (now table ≡ rows) ⌝ }
+    ensures { λ _. ⌜ now (changes .exit) ≡ tabulateFrom (change (totalsBy (now (cells .entry)) (now («add_ons» .entry)) (now (rates .entry))) 1) 1 6 ⌝ }
+{
+    let base = value_of(cells, rates, 0, midpoints, table);
+    for i in 0..6 {
+        let value = value_of(cells, rates, i + 1, midpoints, table);
+        changes[i] = rounded(base - value).0 + add_ons[i];
+    }
+}
+
+// The tolerance of each.
+fn fill_tolerances(cells: &[i64], tolerances: &mut [i64])
+    requires { ⌜ (length (now cells) ≡ Ledger.sectionSize) × (length (now tolerances) ≡ 6) ⌝ }
+    requires { ⌜ ((i : ℕ) → i < scenarios → netSize (totalsBy (now cells) [] []) 1 i ≤ billion) ⌝ }
+    ensures { λ _. ⌜ now (tolerances .exit) ≡ tabulateFrom (Figures.tolerances (totalsBy (now (cells .entry)) [] []) 1) 1 6 ⌝ }
+{
+    let base = net_size(cells, 0);
+    for i in 0..6 {
+        tolerances[i] = tolerance_of(base + net_size(cells, i + 1)) as i64;
+    }
+}
+
+// The figures of currency c + 1, each in its currency's place among the 48.
+pub fn fill_currency(
+    ledger: &[i64],
+    rates: &[i64],
+    add_ons: &[i64],
+    c: usize,
+    midpoints: &[u32],
+    table: &[[u64; 10]; 11],
+    changes: &mut [i64],
+    tolerances: &mut [i64],
+)
+    requires { ⌜ (length (now ledger) ≡ Ledger.cells) × (length (now rates) ≡ Ledger.cells) × (length (now «add_ons») ≡ 6 * currencies) × (c < currencies) ⌝ }
+    requires { ⌜ (length (now changes) ≡ 6 * currencies) × (length (now tolerances) ≡ 6 * currencies) ⌝ }
+    requires { ⌜ Bounded (totalsBy (now ledger) (now «add_ons») (now rates)) (c + 1) ⌝ }
+    requires { ⌜ (now midpoints ≡ Ladder.midpoints) × (now table ≡ rows) ⌝ }
+    ensures { λ _. ⌜ now (changes .exit) ≡ withFigures (change (totalsBy (now (ledger .entry)) (now («add_ons» .entry)) (now (rates .entry)))) c (now (changes .entry)) ⌝ }
+    ensures { λ _. ⌜ now (tolerances .exit) ≡ withFigures (Figures.tolerances (totalsBy (now (ledger .entry)) (now («add_ons» .entry)) (now (rates .entry)))) c (now (tolerances .entry)) ⌝ }
+{
+    let start = SECTION * c;
+    let end = start + SECTION;
+    let six = 6 * c;
+    let next = six + 6;
+    fill_changes(
+        &ledger[start..end],
+        &rates[start..end],
+        &add_ons[six..next],
+        midpoints,
+        table,
+        &mut changes[six..next],
+    );
+    fill_tolerances(&ledger[start..end], &mut tolerances[six..next]);
+}

@@ -1,0 +1,63 @@
+// From flows to the verdict (01, "From flows to verdict"): the report of the arrays into which a book's records were slotted.
+ghost use mathlib.Core.Path.{_≡_};
+ghost use Prim.Native.Nat.{_+_, _*_, _<_, _≤_};
+ghost use lib.ListN.{length};
+ghost use Rattle.paper.specs.Records.{currencies};
+ghost use Rattle.paper.specs.Ledger.{cells, figures};
+ghost use Rattle.paper.specs.Verdict.{reportOf};
+ghost use Rattle.factor.specs.Table.{rows};
+ghost use Rattle.arrays.specs.Rooms.{curvedBy, totalsBy};
+ghost use Rattle.valuation.specs.Bounds.{Bounds};
+
+mod change;
+mod measure;
+mod report;
+mod verdict;
+
+const CURRENCIES: usize = 8;
+
+// Six for each currency: changes, or tolerances.
+const FIGURES: usize = 6 * CURRENCIES;
+
+// Currency c + 1 is the binary digit c.
+fn has_curve(curved: u32, c: usize) -> bool
+    requires { ⌜ c < currencies ⌝ }
+    ensures { λ r. ⌜ r ≡ curvedBy curved (c + 1) ⌝ }
+{
+    (curved >> c) % 2 == 1
+}
+
+// The report of the ledger, the rates and the add-ons. A currency without a curve has nothing in it and is passed over.
+pub fn fill_report(
+    ledger: &[i64],
+    rates: &[i64],
+    add_ons: &[i64],
+    curved: u32,
+    tier1: u64,
+    table: &[[u64; 10]; 11],
+    report: &mut [i64],
+)
+    requires { ⌜ (length (now ledger) ≡ cells) × (length (now rates) ≡ cells) × (length (now «add_ons») ≡ 6 * currencies) × (length (now report) ≡ figures) ⌝ }
+    requires { ⌜ (tier1 ≤ 1_000_000_000_000) × (now table ≡ rows) ⌝ }
+    requires { ⌜ Bounds (totalsBy (now ledger) (now «add_ons») (now rates)) (curvedBy curved) ⌝ }
+    ensures { λ _. ⌜ now (report .exit) ≡ reportOf (totalsBy (now (ledger .entry)) (now («add_ons» .entry)) (now (rates .entry))) tier1 ⌝ }
+{
+    let midpoints = ladder::midpoints();
+    let mut changes = [0i64; FIGURES];
+    let mut tolerances = [0i64; FIGURES];
+    for c in 0..CURRENCIES {
+        if has_curve(curved, c) {
+            change::fill_currency(
+                ledger,
+                rates,
+                add_ons,
+                c,
+                &midpoints,
+                table,
+                &mut changes,
+                &mut tolerances,
+            );
+        }
+    }
+    report::write_report(&changes, &tolerances, tier1, report);
+}
