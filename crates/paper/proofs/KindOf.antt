@@ -11,7 +11,7 @@ use Rattle.paper.specs.Decode.{decodeSingle, decodeCoupons, decodeFloati
 use Rattle.paper.proofs.Known.{Known, known, gone, tested}
 
 -- whatever the first link gives
-through : {A B : Type 0} {Q : B → Type 0} (m : Checked A) {next : A → Checked B} → ((a : A) → Known Q (next a)) → Known Q (m >>= next)
+pub through : {A B : Type 0} {Q : B → Type 0} (m : Checked A) {next : A → Checked B} → ((a : A) → Known Q (next a)) → Known Q (m >>= next)
 unfolding _>>=_
 through (accepted a) rest = rest a
 through (refused r place) rest = gone

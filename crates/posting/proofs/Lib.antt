@@ -1,0 +1,6 @@
+-- loops over lists
+pub mod Loops
+-- 14's test of one currency
+pub mod Limit
+-- plus or minus by the side, and a column
+pub mod Sides

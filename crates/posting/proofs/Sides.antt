@@ -1,0 +1,58 @@
+-- Plus or minus by the side; one amount in a bucket of every scenario; a sum of two small integers fits.
+use Prim.Native.Nat.{ℕ, suc, _+_, _*_, _-_, _%_, _≤_, _<_}
+use mathlib.Core.Bool.{Bool, true, false}
+use mathlib.Core.Path.{_≡_, refl, sym}
+use native.Mathlib.Omega.{arith}
+use lib.IntN.{ℤ, pos, negℤ, natAbs, _+ℤ_, _-ℤ_}
+use mir.Syntax.{w64}
+use mir.Val.{SFits}
+use borrow.Author.Tests.{eq-eqb, ne-eqb}
+use Rattle.laws.specs.Tests.{if_then_else_, _is_}
+use Rattle.laws.proofs.Integers.{zero-sub, abs-add, abs-neg, abs-sub}
+use Rattle.laws.proofs.Fits.{sfits-abs}
+use Rattle.paper.specs.Ladder.{buckets}
+use Rattle.paper.specs.Flow.{sided}
+use Rattle.posting.specs.Parts.{column, trillion}
+
+pub sided-plus : (side : ℕ) (z : ℤ) → side ≡ 1 → sided side z ≡ z
+unfolding sided
+sided-plus side z e = rw (eq-eqb side 1 e)
+
+pub sided-minus : (side : ℕ) (z : ℤ) → (side ≡ 1 → ⊥) → sided side z ≡ pos 0 -ℤ z
+unfolding sided
+sided-minus side z e = rw (ne-eqb side 1 e) (sym (zero-sub z))
+
+pub sided-nil : (side : ℕ) → sided side (pos 0) ≡ pos 0
+unfolding sided
+sided-nil side = by (side is 1)
+  where
+    by : (b : Bool) → (if b then pos 0 else negℤ (pos 0)) ≡ pos 0
+    by true = refl
+    by false = refl
+
+pub abs-sided : (side : ℕ) (z : ℤ) → natAbs (sided side z) ≡ natAbs z
+unfolding sided
+abs-sided side z = by (side is 1)
+  where
+    by : (b : Bool) → natAbs (if b then z else negℤ z) ≡ natAbs z
+    by true = refl
+    by false = abs-neg z
+
+-- ---- sums that fit 64 bits
+
+pub sum-fits : (a b : ℤ) → natAbs a ≤ trillion → natAbs b ≤ trillion → SFits w64 (a +ℤ b)
+sum-fits a b h k = sfits-abs (a +ℤ b) (omega (arith, abs-add a b))
+
+pub minus-fits : (z : ℤ) → natAbs z ≤ trillion → SFits w64 (pos 0 -ℤ z)
+minus-fits z h = sfits-abs (pos 0 -ℤ z) (omega (arith, abs-sub (pos 0) z))
+
+-- ---- a column
+
+module _ (bucket : ℕ) (amount : ℤ) (from : 1 ≤ bucket) (to : bucket ≤ buckets) (i : ℕ) where
+  pub column-here : column bucket amount (19 * i + (bucket - 1)) ≡ amount
+  unfolding column
+  column-here = rw (eq-eqb bucket (suc ((19 * i + (bucket - 1)) % 19)) (omega arith))
+
+  pub column-elsewhere : (j : ℕ) → 19 * i ≤ j → j < 19 * (i + 1) → (j ≡ 19 * i + (bucket - 1) → ⊥) → column bucket amount j ≡ pos 0
+  unfolding column
+  column-elsewhere j l h o = rw (ne-eqb bucket (suc (j % 19)) (λ e. o (omega arith)))

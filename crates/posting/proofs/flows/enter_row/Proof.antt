@@ -1,0 +1,55 @@
+use Prim.Native.Nat.{_≤_}
+use mathlib.Core.Bool.{true, false}
+use mathlib.Core.Path.{refl, sym}
+use native.Mathlib.Omega.{arith}
+use Rattle.posting.specs.Parts.{trillion}
+use Rattle.posting.proofs.Loops.{replicate-all}
+use Rattle.posting.proofs.Limit.{entered, same-size}
+use borrow.Author.Needs.{needs}
+use Rattle.posting.proofs.flows.enter_row.Statement.{statement}
+use Rattle.posting.proofs.flows.enter_row.Tie as tie
+
+slice-aggregate-admits : tie.Need-slice-aggregate-admits
+slice-aggregate-admits c = search needs
+
+admits-requires : tie.Need-admits-requires
+admits-requires c κs =
+    let s = c .before .before .before .before in
+    (sym (s .pre .1 .sizes-long), (s .pre .1 .sizes-small, replicate-all 0 (λ n. n ≤ trillion) 7 (s .args .size) (s .pre .0 .2) (omega arith)))
+
+add-row-requires : tie.Need-add-row-requires
+add-row-requires c κs =
+    let s = c .before .before .before .before .before .before .before .before .before in
+    ((s .pre .1 .cells-long, s .pre .0 .0), ((λ j. omega (arith, s .pre .1 .cells-small j)), s .pre .0 .1))
+
+same-length : tie.Need-same-length
+same-length c = search needs
+
+same-length-2 : tie.Need-same-length-2
+same-length-2 c = search needs
+
+returns : tie.Need-returns
+returns c =
+    let s = c .before .before .before .before .before .before .before .before .before .before .before in
+    entered _ (s .args .side) _ true (s .pre .1 .sizes-long) (same-size (s .args .size)) (c .before .before .before .before .before .before .admits .ensures) (c .before .before .before .if1 .taken) (c .before .add-row .ensures)
+
+same-length-3 : tie.Need-same-length-3
+same-length-3 c = search needs
+
+returns-2 : tie.Need-returns-2
+returns-2 c =
+    let s = c .before .before .before .before .before .before .before .before in
+    entered _ (s .args .side) _ false (s .pre .1 .sizes-long) (same-size (s .args .size)) (c .before .before .before .admits .ensures) (c .if1 .left) refl
+
+pub enter-row-spec : {M : Type 1} → statement M
+enter-row-spec =
+    tie.close
+    (tie.spec
+    slice-aggregate-admits
+    admits-requires
+    add-row-requires
+    same-length
+    same-length-2
+    returns
+    same-length-3
+    returns-2)

@@ -1,0 +1,85 @@
+// The writers of a section: a scenario's nineteen cells start at 19 times the scenario.
+ghost use mathlib.Core.Path.{_≡_};
+ghost use Prim.Native.Nat.{_%_, _<_, _≤_};
+ghost use lib.ListN.{length, getD, set};
+ghost use lib.IntN.{pos, natAbs, _+ℤ_};
+ghost use mir.Syntax.{w64};
+ghost use mir.Val.{SFits};
+ghost use Rattle.paper.specs.Flow.{sided};
+ghost use Rattle.paper.specs.Ladder.{buckets};
+ghost use Rattle.paper.specs.Ledger.{sectionSize};
+ghost use Rattle.arrays.specs.Slots.{plusℤ};
+ghost use Rattle.posting.specs.Parts.{AtMost, AtMostℤ, column, trillion};
+use ladder::Thousands;
+
+// An asset plus, a liability minus; an option sold plus, one bought minus.
+pub fn sided(side: u32, value: Thousands) -> Thousands
+    requires { ⌜ natAbs (value .0) ≤ trillion ⌝ }
+    ensures { λ r. ⌜ r .0 ≡ sided side (value .0) ⌝ }
+{
+    if side == 1 {
+        return value;
+    }
+    Thousands(0 - value.0)
+}
+
+pub fn sided_amount(side: u32, amount: u64) -> Thousands
+    requires { ⌜ amount ≤ trillion ⌝ }
+    ensures { λ r. ⌜ r .0 ≡ sided side (pos amount) ⌝ }
+{
+    sided(side, Thousands(amount as i64))
+}
+
+pub fn add_into(cells: &mut [i64], at: usize, amount: Thousands)
+    requires { ⌜ at < length (now cells) ⌝ }
+    requires { ⌜ SFits w64 (getD (now cells) at (pos 0) +ℤ amount .0) ⌝ }
+    ensures { λ _. ⌜ now (cells .exit) ≡ set (now (cells .entry)) at (getD (now (cells .entry)) at (pos 0) +ℤ amount .0) ⌝ }
+{
+    cells[at] += amount.0;
+}
+
+// One amount in one bucket of every scenario.
+pub fn post(section: &mut [i64], bucket: usize, amount: Thousands)
+    requires { ⌜ (length (now section) ≡ sectionSize) × (1 ≤ bucket) × (bucket ≤ buckets) ⌝ }
+    requires { ⌜ AtMostℤ trillion (now section) ⌝ }
+    requires { ⌜ natAbs (amount .0) ≤ trillion ⌝ }
+    ensures { λ _. ⌜ now (section .exit) ≡ plusℤ (now (section .entry)) (column bucket (amount .0)) ⌝ }
+{
+    let mut i: usize = 0;
+    while i < 7 {
+        let at = 19 * i + (bucket - 1);
+        add_into(section, at, amount);
+        i += 1;
+    }
+}
+
+// Flows cell by cell, all of one side.
+pub fn add_flows(cells: &mut [i64], side: u32, flows: &[u64])
+    requires { ⌜ length (now flows) ≡ length (now cells) ⌝ }
+    requires { ⌜ AtMostℤ trillion (now cells) ⌝ }
+    requires { ⌜ AtMost trillion (now flows) ⌝ }
+    ensures { λ _. ⌜ now (cells .exit) ≡ plusℤ (now (cells .entry)) (λ j. sided side (pos (getD (now (flows .entry)) j 0))) ⌝ }
+{
+    let mut j = 0;
+    while j < cells.len() {
+        let flow = sided_amount(side, flows[j]);
+        add_into(cells, j, flow);
+        j += 1;
+    }
+}
+
+// One row of nineteen flows in every scenario.
+pub fn add_row(section: &mut [i64], side: u32, row: &[u64])
+    requires { ⌜ (length (now section) ≡ sectionSize) × (length (now row) ≡ buckets) ⌝ }
+    requires { ⌜ AtMostℤ trillion (now section) ⌝ }
+    requires { ⌜ AtMost trillion (now row) ⌝ }
+    ensures { λ _. ⌜ now (section .exit) ≡ plusℤ (now (section .entry)) (λ j. sided side (pos (getD (now (row .entry)) (j % buckets) 0))) ⌝ }
+{
+    let mut i: usize = 0;
+    while i < 7 {
+        let from = 19 * i;
+        let to = from + 19;
+        add_flows(&mut section[from..to], side, row);
+        i += 1;
+    }
+}

@@ -1,0 +1,181 @@
+-- What a field comes to where its value is bad and where it is not, and n fields in a row. Of the paper's definitions alone.
+use Prim.Native.Nat.{ℕ, zero, suc, _+_, _*_, _≤_, _<_}
+use mathlib.Core.Bool.{Bool, true, false, _||_}
+use mathlib.Core.List.{List, _∷_}
+use mathlib.Core.Logic.{_⊎_, inl, inr, ⊎-elim}
+use mathlib.Core.Path.{_≡_, refl, sym, ap, _∙_}
+use native.Mathlib.Nat.{add-zero, eq-or-lt-of-le}
+use native.Mathlib.Omega.{arith}
+use borrow.Author.Tests.{ne-eqb}
+use lib.IntN.{ℤ, pos, negsuc, negℤ}
+use lib.Signed.{ltZ}
+use lib.Dec.{leb·suc-suc}
+use Rattle.laws.specs.Tests.{first}
+use Rattle.laws.specs.Lists.{tabulateFrom, tabulate}
+use Rattle.laws.proofs.Tests.{lt-or-ge, first-holds, first-before}
+use Rattle.paper.specs.declared.Refusal.{Refusal}
+use Rattle.paper.specs.Scales.{billion}
+use Rattle.paper.specs.Refusals.{Checked, accepted, refused, _>>=_, _>>_, unless}
+use Rattle.paper.specs.TurnedDown.{badPeriod, badOption}
+use Rattle.paper.specs.Fields.{field, each}
+use Rattle.paper.specs.Book.{placed}
+
+never : {A : Type 0} {a : A} {q : Refusal} {place : ℕ} → accepted a ≡ refused q place → ⊥
+never e = let z : _≡_ {A = ℕ} 0 1 = cc in omega arith
+
+-- what is accepted after a field or a rule had that accepted; and a place makes no refusal
+pub after-field : {A B : Type 0} {b : B} (m : Checked A) (next : A → Checked B) → (m >>= next) ≡ accepted b → (a : A) × (m ≡ accepted a) × (next a ≡ accepted b)
+unfolding _>>=_
+after-field (accepted a) next e = (a, refl, e)
+after-field (refused q place) next e = absurd (never (sym e))
+
+pub after-rule : {A B : Type 0} {b : B} (m : Checked A) (rest : Checked B) → (m >> rest) ≡ accepted b → rest ≡ accepted b
+unfolding _>>_
+after-rule (accepted a) rest e = e
+after-rule (refused q place) rest e = absurd (never (sym e))
+
+pub unplaced : {A : Type 0} {a : A} (at : ℕ) (m : Checked A) → placed at m ≡ accepted a → m ≡ accepted a
+unfolding placed
+unplaced at (accepted a) e = e
+unplaced at (refused q place) e = absurd (never (sym e))
+
+-- ---- one field
+
+module _ {A : Type 0} (bad : A → Bool) (q : Refusal) where
+  pub field-good : (o : ℕ) (x : A) → bad x ≡ false → field bad q o x ≡ accepted x
+  unfolding field unless
+  field-good o x e = rw e
+
+  pub field-bad : (o : ℕ) (x : A) → bad x ≡ true → field bad q o x ≡ refused q (suc o)
+  unfolding field unless
+  field-bad o x e = rw e
+
+  pub field-ext : (worse : A → Bool) (o : ℕ) (x : A) → bad x ≡ worse x → field bad q o x ≡ field worse q o x
+  unfolding field
+  field-ext worse o x e = rw e
+
+-- and back
+module _ {A : Type 0} (bad : A → Bool) (q : Refusal) (o : ℕ) (x : A) where
+  pub field-accepts : (y : A) → field bad q o x ≡ accepted y → (x ≡ y) × (bad x ≡ false)
+  unfolding field unless
+  field-accepts y e = by (bad x) refl e
+    where
+      by : (b : Bool) → bad x ≡ b → unless b q (suc o) x ≡ accepted y → (x ≡ y) × (bad x ≡ false)
+      by true t u = absurd (never (sym u))
+      by false t u = (cc, t)
+
+  pub field-refuses : (r : Refusal) (place : ℕ) → field bad q o x ≡ refused r place → bad x ≡ true
+  unfolding field unless
+  field-refuses r place e = by (bad x) refl e
+    where
+      by : (b : Bool) → bad x ≡ b → unless b q (suc o) x ≡ refused r place → bad x ≡ true
+      by true t u = t
+      by false t u = absurd (never u)
+
+or-nothing : (b : Bool) → b || false ≡ b
+or-nothing true = refl
+or-nothing false = refl
+
+-- a magnitude above the limit is a value below or above a range
+pub option-outside : (z : ℤ) → badOption z ≡ ltZ z (negℤ (pos billion)) || ltZ (pos billion) z
+unfolding badOption
+option-outside (pos n) = refl
+option-outside (negsuc n) = leb·suc-suc 1000000000 n ∙ sym (or-nothing _)
+
+pub period-listed : (p : ℕ) → (p ≡ 1) ⊎ ((p ≡ 3) ⊎ ((p ≡ 6) ⊎ (p ≡ 12))) → badPeriod p ≡ false
+unfolding badPeriod
+period-listed p = ⊎-elim (λ e. rw e) (⊎-elim (λ e. rw e) (⊎-elim (λ e. rw e) (λ e. rw e)))
+
+pub period-unlisted : (p : ℕ) → ((p ≡ 1) ⊎ ((p ≡ 3) ⊎ ((p ≡ 6) ⊎ (p ≡ 12))) → ⊥) → badPeriod p ≡ true
+unfolding badPeriod
+period-unlisted p f =
+    rw (ne-eqb p 1 (λ e. f (inl e)), ne-eqb p 3 (λ e. f (inr (inl e))), ne-eqb p 6 (λ e. f (inr (inr (inl e)))), ne-eqb p 12 (λ e. f (inr (inr (inr e)))))
+
+-- ---- n fields in a row
+
+-- the first of them, and what follows
+pub each-more : {A B : Type 0} (read : ℕ → Checked A) (n o : ℕ) (next : List A → Checked B)
+    → (each read (suc n) o >>= next) ≡ (read o >>= (λ x. each read n (o + 4) >>= (λ xs. next (x ∷ xs))))
+unfolding each _>>=_
+each-more read n o next = by (read o) (each read n (o + 4))
+  where
+    by : (m : Checked _) (rest : Checked (List _)) → ((m >>= (λ x. rest >>= (λ xs. accepted (x ∷ xs)))) >>= next) ≡ (m >>= (λ x. rest >>= (λ xs. next (x ∷ xs))))
+    by (accepted x) (accepted xs) = refl
+    by (accepted x) (refused q at) = refl
+    by (refused q at) rest = refl
+
+-- fields of one circumstance: `get` reads the value whose first byte is given
+module _ {A : Type 0} (bad : A → Bool) (q : Refusal) (get : ℕ → A) where
+  abbrev run : ℕ → ℕ → Checked (List A)
+  run = each (λ o. field bad q o (get o))
+
+  -- the field k of those from o on
+  abbrev nth : ℕ → ℕ → A
+  nth o k = get (o + 4 * k)
+
+  next-at : (o a : ℕ) → o + 4 * a + 4 ≡ o + 4 * suc a
+  next-at o a = omega arith
+
+  good-from : (o a n : ℕ) → ((k : ℕ) → a ≤ k → k < a + n → bad (nth o k) ≡ false) → run n (o + 4 * a) ≡ accepted (tabulateFrom (nth o) a n)
+  unfolding each tabulateFrom _>>=_
+  good-from o a zero h = refl
+  good-from o a (suc n) h =
+      rw (field-good bad q (o + 4 * a) (nth o a) (h a (omega arith) (omega arith)), next-at o a, good-from o (suc a) n (λ k l m. h k (omega arith) (omega arith)))
+
+  bad-from : (o a n k : ℕ) → a ≤ k → k < a + n → bad (nth o k) ≡ true → ((j : ℕ) → a ≤ j → j < k → bad (nth o j) ≡ false)
+      → run n (o + 4 * a) ≡ refused q (suc (o + 4 * k))
+  unfolding each _>>=_
+  bad-from o a zero k l m t h = absurd (omega arith)
+  bad-from o a (suc n) k l m t h =
+      ⊎-elim here (λ p. later p (bad-from o (suc a) n k p (omega arith) t (λ j u v. h j (omega arith) v))) (eq-or-lt-of-le l)
+    where
+      here : a ≡ k → run (suc n) (o + 4 * a) ≡ refused q (suc (o + 4 * k))
+      here e = rw (e, field-bad bad q (o + 4 * k) (nth o k) t)
+
+      later : a < k → run n (o + 4 * suc a) ≡ refused q (suc (o + 4 * k)) → run (suc n) (o + 4 * a) ≡ refused q (suc (o + 4 * k))
+      later p e = rw (field-good bad q (o + 4 * a) (nth o a) (h a (omega arith) p), next-at o a, e)
+
+  -- each is fine
+  pub each-good : (o n : ℕ) → ((k : ℕ) → k < n → bad (nth o k) ≡ false) → run n o ≡ accepted (tabulate (nth o) n)
+  each-good o n h = rw add-zero at (good-from o 0 n (λ k l m. h k (omega arith)))
+
+  -- k is the first that is bad
+  pub each-bad : (o n k : ℕ) → k < n → bad (nth o k) ≡ true → ((j : ℕ) → j < k → bad (nth o j) ≡ false) → run n o ≡ refused q (suc (o + 4 * k))
+  each-bad o n k l t h = rw add-zero at (bad-from o 0 n k (omega arith) (omega arith) t (λ j u v. h j v))
+
+  -- one or the other
+  abbrev Fine : ℕ → ℕ → Type 0
+  Fine o n = (run n o ≡ accepted (tabulate (nth o) n)) × ((k : ℕ) → k < n → bad (nth o k) ≡ false)
+
+  ends : (o n : ℕ) → Fine o n ⊎ ((place : ℕ) × (run n o ≡ refused q place))
+  ends o n =
+      ⊎-elim (λ l. inr (_, each-bad o n stop l (first-holds p 0 n (omega arith)) (λ j m. first-before p 0 n j (omega arith) m)))
+      (λ l. inl (each-good o n (all-good l), all-good l)) (lt-or-ge stop n)
+    where
+      p : ℕ → Bool
+      p k = bad (nth o k)
+
+      stop : ℕ
+      stop = first p 0 n
+
+      all-good : n ≤ stop → (k : ℕ) → k < n → p k ≡ false
+      all-good l k m = first-before p 0 n k (omega arith) (omega arith)
+
+  -- and back
+  pub each-accepts : (o n : ℕ) (xs : List A) → run n o ≡ accepted xs → (xs ≡ tabulate (nth o) n) × ((k : ℕ) → k < n → bad (nth o k) ≡ false)
+  each-accepts o n xs e = ⊎-elim fine gone (ends o n)
+    where
+      fine : Fine o n → (xs ≡ tabulate (nth o) n) × ((k : ℕ) → k < n → bad (nth o k) ≡ false)
+      fine (g, h) = (cc, h)
+
+      gone : ((place : ℕ) × (run n o ≡ refused q place)) → (xs ≡ tabulate (nth o) n) × ((k : ℕ) → k < n → bad (nth o k) ≡ false)
+      gone (place, g) = absurd (never (sym e ∙ g))
+
+  pub each-refuses : (o n : ℕ) (r : Refusal) (place : ℕ) → run n o ≡ refused r place → run n o ≡ refused q place
+  each-refuses o n r place e = ⊎-elim fine gone (ends o n)
+    where
+      fine : Fine o n → run n o ≡ refused q place
+      fine (g, h) = absurd (never (sym g ∙ e))
+
+      gone : ((found : ℕ) × (run n o ≡ refused q found)) → run n o ≡ refused q place
+      gone (found, g) = let same : found ≡ place = cc in g ∙ ap (refused q) same

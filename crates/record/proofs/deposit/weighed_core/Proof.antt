@@ -1,0 +1,106 @@
+-- `weighed_core` meets its contract: the sum so far is that of the amounts times midpoints.
+use Prim.Native.Nat.{ℕ, _+_, _*_, _-_, _≤_}
+use mathlib.Core.List.{List}
+use mathlib.Core.Path.{_≡_, ap}
+use native.Mathlib.Omega.{arith}
+use borrow.Author.Needs.{needs}
+use lib.ListN.{getD}
+use Rattle.record.proofs.DepositLaws.{Weighed, weighed-none, weighed-more, weighed-ends}
+use Rattle.record.proofs.deposit.weighed_core.Statement.{statement}
+use Rattle.record.proofs.deposit.weighed_core.Tie as tie
+
+abbrev Inv-loop : tie.InvT-loop
+Inv-loop body middles weighed₀ k₀ weighed k = (k ≤ 19) × Weighed body k weighed
+
+abbrev μ-loop : tie.MeasureT-loop
+μ-loop body middles weighed₀ k₀ weighed k = 19 - k
+
+-- one bucket more
+more : (c : tie.After-four-at Inv-loop μ-loop)
+    → Weighed (c .before .before .before .before .before .args .body .now) (c .before .before .loop .k + 1)
+    (c .before .before .loop .weighed + c .four-at .result * getD (c .before .before .before .midpoints .result) (c .before .before .loop .k) 0)
+more c =
+    weighed-more _ _ _ _ _ (c .before .loop-test .taken) (c .before .before .loop .inv .1) (c .four-at .ensures) (omega arith)
+    (ap (λ (l : List ℕ). getD l (c .before .before .loop .k) 0) (c .before .before .before .midpoints .ensures))
+
+midpoints-requires : tie.Need-midpoints-requires Inv-loop μ-loop
+midpoints-requires c κs =
+    search needs
+
+loop-holds : tie.Need-loop-holds Inv-loop μ-loop
+loop-holds c = (omega arith, weighed-none _)
+
+mul-four-at : tie.Need-mul-four-at Inv-loop μ-loop
+mul-four-at c =
+    search needs
+
+add-four-at : tie.Need-add-four-at Inv-loop μ-loop
+add-four-at c =
+    search needs
+
+four-at-requires : tie.Need-four-at-requires Inv-loop μ-loop
+four-at-requires c κs =
+    search needs
+
+cast-weighed : tie.Need-cast-weighed Inv-loop μ-loop
+cast-weighed c =
+    search needs
+
+mul-weighed : tie.Need-mul-weighed Inv-loop μ-loop
+mul-weighed c =
+    search needs
+
+array-read-weighed : tie.Need-array-read-weighed Inv-loop μ-loop
+array-read-weighed c =
+    search needs
+
+cast-weighed-2 : tie.Need-cast-weighed-2 Inv-loop μ-loop
+cast-weighed-2 c =
+    search needs
+
+mul-weighed-2 : tie.Need-mul-weighed-2 Inv-loop μ-loop
+mul-weighed-2 c =
+    record { fits = omega (arith, more c .small) }
+
+add-weighed : tie.Need-add-weighed Inv-loop μ-loop
+add-weighed c =
+    record { fits = omega (arith, more c .small) }
+
+add-k : tie.Need-add-k Inv-loop μ-loop
+add-k c =
+    search needs
+
+loop-less : tie.Need-loop-less Inv-loop μ-loop
+loop-less c =
+    search needs
+
+loop-again : tie.Need-loop-again Inv-loop μ-loop
+loop-again c =
+    (omega arith, more c)
+
+returns : tie.Need-returns Inv-loop μ-loop
+returns c =
+    let e : c .before .loop .k ≡ 19 = omega arith in
+    weighed-ends _ _ (rw e at (c .before .loop .inv .1))
+
+pub weighed-core-spec : {M : Type 1} → statement M
+weighed-core-spec =
+    tie.close
+    (tie.spec
+    Inv-loop
+    μ-loop
+    midpoints-requires
+    loop-holds
+    mul-four-at
+    add-four-at
+    four-at-requires
+    cast-weighed
+    mul-weighed
+    array-read-weighed
+    cast-weighed-2
+    mul-weighed-2
+    add-weighed
+    add-k
+    loop-less
+    loop-again
+    returns)

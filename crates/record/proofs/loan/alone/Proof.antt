@@ -1,0 +1,19 @@
+-- `alone` meets its contract, test by test.
+use Prim.Native.Nat.{_≤_, _<_}
+use native.Mathlib.Omega.{arith}
+use borrow.Author.Tests.{lt-ltb, le-ltb}
+use Rattle.record.proofs.loan.alone.Statement.{statement}
+use Rattle.record.proofs.loan.alone.Tie as tie
+
+returns : tie.Need-returns
+returns c =
+    let nil : c .before .args .interest ≤ 0 = omega arith in
+    rw (le-ltb 0 (c .before .args .interest) nil)
+
+returns-2 : tie.Need-returns-2
+returns-2 c =
+    let some : 0 < c .before .args .interest = omega arith in
+    rw (lt-ltb 0 (c .before .args .interest) some)
+
+pub alone-spec : {M : Type 1} → statement M
+alone-spec = tie.close (tie.spec returns returns-2)

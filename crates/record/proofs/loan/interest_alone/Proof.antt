@@ -1,0 +1,105 @@
+-- `interest_alone` meets its contract: no bucket so far has its interest alone, and what is scheduled is kept.
+use Prim.Native.Nat.{ℕ, _-_, _≤_}
+use mathlib.Core.Bool.{_&&_}
+use mathlib.Core.Path.{_≡_, sym, ap, _∙_}
+use native.Mathlib.Omega.{arith}
+use borrow.Author.Needs.{needs}
+use Rattle.laws.specs.Tests.{_is_, _below_}
+use Rattle.record.proofs.LoanLaws.{Passed, passed-none, passed-covers, passed-more, passed-stops, passed-ends}
+use Rattle.record.proofs.loan.interest_alone.Statement.{statement}
+use Rattle.record.proofs.loan.interest_alone.Tie as tie
+
+abbrev Inv-loop : tie.InvT-loop
+Inv-loop body principal scheduled₀ k₀ scheduled k = (k ≤ 19) × Passed body k scheduled
+
+abbrev μ-loop : tie.MeasureT-loop
+μ-loop body principal scheduled₀ k₀ scheduled k = 19 - k
+
+loop-holds : tie.Need-loop-holds Inv-loop μ-loop
+loop-holds c =
+    (omega arith, passed-none _ _ (c .before .pre .1))
+
+mul-four-at : tie.Need-mul-four-at Inv-loop μ-loop
+mul-four-at c =
+    search needs
+
+add-four-at : tie.Need-add-four-at Inv-loop μ-loop
+add-four-at c =
+    search needs
+
+four-at-requires : tie.Need-four-at-requires Inv-loop μ-loop
+four-at-requires c κs =
+    search needs
+
+alone-requires : tie.Need-alone-requires Inv-loop μ-loop
+alone-requires c κs =
+    search needs
+
+returns : tie.Need-returns Inv-loop μ-loop
+returns c =
+    let i = c .before .before .before in
+    let test = sym (c .before .alone .ensures ∙ ap (λ (x : ℕ). 0 below x && i .before .loop .scheduled is 0) (c .before .before .four-at .ensures)) ∙ c .if1 .taken in
+    sym (passed-stops _ _ _ (i .loop-test .taken) (i .before .loop .inv .1) test)
+
+mul-four-at-2 : tie.Need-mul-four-at-2 Inv-loop μ-loop
+mul-four-at-2 c =
+    search needs
+
+add-four-at-2 : tie.Need-add-four-at-2 Inv-loop μ-loop
+add-four-at-2 c =
+    search needs
+
+four-at-requires-2 : tie.Need-four-at-requires-2 Inv-loop μ-loop
+four-at-requires-2 c κs =
+    search needs
+
+cast-scheduled : tie.Need-cast-scheduled Inv-loop μ-loop
+cast-scheduled c =
+    search needs
+
+sub-scheduled : tie.Need-sub-scheduled Inv-loop μ-loop
+sub-scheduled c =
+    let i = c .before .before .before .before in
+    rw (c .four-at2 .ensures) (passed-covers _ _ _ (i .loop-test .taken) (i .before .loop .inv .1))
+
+add-k : tie.Need-add-k Inv-loop μ-loop
+add-k c =
+    search needs
+
+loop-less : tie.Need-loop-less Inv-loop μ-loop
+loop-less c =
+    search needs
+
+loop-again : tie.Need-loop-again Inv-loop μ-loop
+loop-again c =
+    let t = c .before .before in
+    let i = t .before .before in
+    let test = sym (t .alone .ensures ∙ ap (λ (x : ℕ). 0 below x && i .before .loop .scheduled is 0) (t .before .four-at .ensures)) ∙ c .before .if1 .left in
+    (omega arith, rw (c .four-at2 .ensures) (passed-more _ _ _ (i .loop-test .taken) (i .before .loop .inv .1) test))
+
+returns-2 : tie.Need-returns-2 Inv-loop μ-loop
+returns-2 c =
+    let e : c .before .loop .k ≡ 19 = omega arith in
+    sym (passed-ends _ _ (rw e at (c .before .loop .inv .1)))
+
+pub interest-alone-spec : {M : Type 1} → statement M
+interest-alone-spec =
+    tie.close
+    (tie.spec
+    Inv-loop
+    μ-loop
+    loop-holds
+    mul-four-at
+    add-four-at
+    four-at-requires
+    alone-requires
+    returns
+    mul-four-at-2
+    add-four-at-2
+    four-at-requires-2
+    cast-scheduled
+    sub-scheduled
+    add-k
+    loop-less
+    loop-again
+    returns-2)

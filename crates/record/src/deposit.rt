@@ -1,0 +1,102 @@
+// Kind 4, a non-maturity deposit: currency, category (1), total, 19 core amounts. The core is checked where it stands; the answer holds the
+// fields before it.
+ghost use mathlib.Core.List.{[], _∷_};
+ghost use mathlib.Core.Path.{_≡_};
+ghost use Prim.Native.Nat.{_+_, _*_, _≤_};
+ghost use lib.ListN.{length, getD};
+ghost use Rattle.laws.specs.Tests.{_below_};
+ghost use Rattle.paper.specs.Behaviour.{coreCap, averageCap, weighedCore};
+ghost use Rattle.paper.specs.Decode.{decodeDeposit};
+ghost use Rattle.paper.specs.Book.{placed};
+ghost use Rattle.record.specs.Told.{amountsFrom, depositRead};
+use crate::amounts::Amounts;
+use crate::amounts::amounts_at;
+use crate::bytes::four_at;
+use crate::fields::Field;
+use crate::fields::amount_at;
+use crate::fields::category_at;
+use crate::fields::currency_at;
+use ladder::midpoints;
+use paper::Refusal;
+
+pub struct Deposit {
+    pub currency: u32,
+    pub category: u32,
+    pub total: u32,
+}
+
+pub enum DecodedDeposit {
+    Is(Deposit),
+    Refused(Refusal),
+}
+
+// The cap of categories 1, 2, 3.
+fn cap_of(category: u32, first: u64, second: u64, third: u64) -> u64
+    ensures { λ r. ⌜ (r ≡ getD (0 ∷ first ∷ second ∷ third ∷ []) category 0) × (r ≤ first + second + third) ⌝ }
+{
+    match category {
+        1 => first,
+        2 => second,
+        3 => third,
+        _ => 0,
+    }
+}
+
+// 9: so many per cent of the total.
+fn above_cap(category: u32, total: u32, core: u64) -> bool
+    requires { ⌜ core ≤ 19_000_000_000 ⌝ }
+    ensures { λ r. ⌜ r ≡ (coreCap category * total below 100 * core) ⌝ }
+{
+    cap_of(category, 90, 70, 50) * (total as u64) < 100 * core
+}
+
+// 10: so many ten-thousandths of a year, on the average.
+fn too_long(category: u32, core: u64, weighed: u64) -> bool
+    requires { ⌜ core ≤ 19_000_000_000 ⌝ }
+    ensures { λ r. ⌜ r ≡ (averageCap category * core below weighed) ⌝ }
+{
+    cap_of(category, 50_000, 45_000, 40_000) * core < weighed
+}
+
+fn weighed_core(body: &[u8]) -> u64
+    requires { ⌜ length (now body) ≡ 82 ⌝ }
+    ensures { λ r. ⌜ r ≡ weighedCore (amountsFrom (now (body .entry)) 6) ⌝ }
+{
+    let middles = midpoints();
+    let mut weighed: u64 = 0;
+    let mut k: usize = 0;
+    while k < 19 {
+        weighed += (four_at(body, 6 + 4 * k) as u64) * (middles[k] as u64);
+        k += 1;
+    }
+    weighed
+}
+
+pub fn decode_deposit(body: &[u8]) -> DecodedDeposit
+    requires { ⌜ length (now body) ≡ 82 ⌝ }
+    ensures { λ r. ⌜ depositRead (now (body .entry)) r ≡ placed 0 (decodeDeposit (now (body .entry))) ⌝ }
+{
+    let Field::Value(currency) = currency_at(body, 0) else {
+        return DecodedDeposit::Refused(Refusal::BadCurrency);
+    };
+    let Field::Value(category) = category_at(body, 1) else {
+        return DecodedDeposit::Refused(Refusal::BadCategory);
+    };
+    let Field::Value(total) = amount_at(body, 2) else {
+        return DecodedDeposit::Refused(Refusal::TooLarge);
+    };
+    let Amounts::Sum(core) = amounts_at(body, 6) else {
+        return DecodedDeposit::Refused(Refusal::TooLarge);
+    };
+    if above_cap(category, total, core) {
+        return DecodedDeposit::Refused(Refusal::CoreAboveCap);
+    }
+    if too_long(category, core, weighed_core(body)) {
+        return DecodedDeposit::Refused(Refusal::CoreTooLong);
+    }
+    DecodedDeposit::Is(Deposit {
+        currency,
+        category,
+        total,
+    })
+}

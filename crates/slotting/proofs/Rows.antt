@@ -1,0 +1,86 @@
+-- Flows of all seven scenarios in one list, a row of nineteen for each; the multipliers of the scenarios.
+use Prim.Native.Nat.{ℕ, _+_, _*_, _/_, _%_, _≤_, _<_}
+use mathlib.Core.Bool.{true}
+use mathlib.Core.List.{List}
+use mathlib.Core.Path.{_≡_, sym, ap, ap₂, subst, _∙_}
+use native.Mathlib.Omega.{arith}
+use borrow.Author.Tests.{leb-true}
+use lib.IntN.{ℤ, pos}
+use lib.ListN.{length, getD}
+use Rattle.laws.specs.Tests.{_upTo_, all}
+use Rattle.laws.specs.Lists.{tabulate, splice}
+use Rattle.laws.proofs.Tests.{all-at}
+use Rattle.laws.proofs.Lists.{tabulate-length, tabulate-at, tabulate-is}
+use Rattle.laws.proofs.Sections.{length-section, length-splice}
+use Rattle.paper.specs.Ladder.{buckets}
+use Rattle.paper.specs.Records.{Record}
+use Rattle.paper.specs.Flow.{scenarios, sided, flow, magnitude}
+use Rattle.paper.specs.Ledger.{sectionSize}
+use Rattle.posting.specs.declared.Slotted.{Slotted}
+use Rattle.posting.specs.Parts.{AtMost, FlowParts}
+use Rattle.slotting.specs.Parts.{FlowsSlotted}
+use Rattle.posting.specs.Parts.{Entered}
+use Rattle.slotting.proofs.Entered.{entered-slotted}
+use Rattle.posting.proofs.Loops.{Filled, filled-none, filled-part, tabulate-all}
+
+-- by the place in a section
+abbrev pub byPlace : (ℕ → ℕ → ℕ) → ℕ → ℕ
+byPlace row j = row (j / buckets) (j % buckets)
+
+-- a section's length, with the rows of the first i scenarios filled
+pub record Rows (row : ℕ → ℕ → ℕ) (i : ℕ) (l : List ℕ) : Type 0 where
+  pub long : length l ≡ sectionSize
+  pub filled : Filled 0 (19 * i) (byPlace row) l
+
+pub rows-none : (row : ℕ → ℕ → ℕ) (l : List ℕ) → length l ≡ sectionSize → Rows row 0 l
+rows-none row l e = record { long = e; filled = filled-none 0 (byPlace row) l }
+
+-- one more, by a part lent on
+pub rows-next : {row : ℕ → ℕ → ℕ} {l part : List ℕ} {i : ℕ} → i < 7 → Rows row i l → part ≡ tabulate (row i) buckets → Rows row (i + 1) (splice (19 * i) 19 l part)
+rows-next {row} {l} {part} {i} w h e =
+    let more : 19 * (i + 1) ≡ 19 * i + 19 = omega arith in
+    let nineteen : length part ≡ 19 = ap length e ∙ tabulate-length (row i) buckets in
+    let room : 19 * i + 19 ≤ length l = omega (arith, h .long) in
+    record {
+      long = length-splice (19 * i) 19 l part (nineteen ∙ sym (length-section (19 * i) 19 l room)) ∙ h .long;
+      filled = rw more
+          (filled-part 0 (byPlace row) l part (19 * i) 19 (h .filled)
+          (λ k o.
+          let scenario : i ≡ (19 * i + k) / 19 = omega arith in
+          let bucket : k ≡ (19 * i + k) % 19 = omega arith in
+          ap (λ (m : List ℕ). getD m k 0) e ∙ tabulate-at (row i) buckets k 0 o ∙ ap₂ row scenario bucket)
+          nineteen
+          room);
+    }
+
+pub rows-done : {row : ℕ → ℕ → ℕ} {l : List ℕ} {i : ℕ} → 7 ≤ i → Rows row i l → l ≡ tabulate (byPlace row) sectionSize
+rows-done {row} {l} {i} w h = tabulate-is 0 l (byPlace row) sectionSize (h .long) (λ j o. h .filled j (omega arith))
+
+-- ---- a row, or a row for each scenario, once filled: its bound, and whose flows it is
+
+pub row-small : (f : ℕ → ℕ) (n b : ℕ) {l : List ℕ} → l ≡ tabulate f n → ((k : ℕ) → k < n → f k ≤ b) → AtMost b l
+row-small f n b e h = subst (AtMost b) (sym e) (tabulate-all (λ x. x ≤ b) f n h (omega arith))
+
+pub row-at : (f : ℕ → ℕ) (n : ℕ) {l : List ℕ} → l ≡ tabulate f n → (k : ℕ) → k < n → getD l k 0 ≡ f k
+row-at f n e k o = ap (λ (m : List ℕ). getD m k 0) e ∙ tabulate-at f n k 0 o
+
+module _ (r : Record) (side : ℕ) {section section' : List ℤ} {sizes sizes' l : List ℕ} {answer : Slotted} (parts : FlowParts section sizes) where
+  pub row-slotted : (f : ℕ → ℕ) (size : ℕ) → l ≡ tabulate f buckets → ((i k : ℕ) → sided side (pos (f k)) ≡ flow r i k) → ((i : ℕ) → magnitude r i ≡ size)
+      → Entered (λ j. getD l (j % buckets) 0) side (λ i. size) section sizes answer section' sizes' → FlowsSlotted r section sizes answer section' sizes'
+  row-slotted f size e flows-are sized =
+      entered-slotted r _ side _ parts
+      (λ j o. ap (λ (n : ℕ). sided side (pos n)) (row-at f buckets e (j % buckets) (omega arith)) ∙ flows-are (j / buckets) (j % buckets))
+      (λ i o. sym (sized i))
+
+  pub rows-slotted : (row : ℕ → ℕ → ℕ) (more : ℕ → ℕ) → l ≡ tabulate (byPlace row) sectionSize → ((i k : ℕ) → sided side (pos (row i k)) ≡ flow r i k)
+      → ((i : ℕ) → i < scenarios → more i ≡ magnitude r i) → Entered (λ j. getD l j 0) side more section sizes answer section' sizes'
+      → FlowsSlotted r section sizes answer section' sizes'
+  rows-slotted row more e flows-are sized =
+      entered-slotted r _ side more parts
+      (λ j o. ap (λ (n : ℕ). sided side (pos n)) (row-at (byPlace row) sectionSize e j o) ∙ flows-are (j / buckets) (j % buckets))
+      sized
+
+-- ---- the multipliers
+
+pub multiplier-small : (multipliers : List ℕ) → all (λ i. getD multipliers i 0 upTo 12) 0 7 ≡ true → (i : ℕ) → i < 7 → getD multipliers i 0 ≤ 12
+multiplier-small multipliers t i l = leb-true _ _ (all-at (λ j. getD multipliers j 0 upTo 12) 0 7 t i (omega arith) l)

@@ -1,0 +1,81 @@
+// Kind 2: a coupon at each period's end, the principal with the last; the same in every scenario. How many coupons are due by the end of a
+// bucket is a division, so there is no pass over the coupons.
+ghost use mathlib.Core.Path.{_≡_};
+ghost use Prim.Native.Nat.{_*_, _/_, _≤_, min};
+ghost use lib.ListN.{length};
+ghost use Rattle.laws.specs.Lists.{tabulate};
+ghost use Rattle.paper.specs.Scales.{billion};
+ghost use Rattle.paper.specs.Ladder.{buckets};
+ghost use Rattle.paper.specs.Records.{flows};
+ghost use Rattle.paper.specs.Flow.{couponsDue};
+ghost use Rattle.paper.proofs.Sound.{SoundFlows};
+ghost use Rattle.slotting.specs.Meant.{couponsOf};
+ghost use Rattle.posting.specs.Parts.{FlowParts};
+ghost use Rattle.slotting.specs.Parts.{FlowsSlotted};
+use ladder::bucket_of;
+use posting::Slotted;
+use posting::flows::enter_row;
+use record::coupons::Coupons;
+
+// The months by which buckets 1 to 19 end. Bucket 1 ends before the first month, and no coupon of kind 2 is past month 600.
+const MONTH_ENDS: [u32; 19] = [
+    0,
+    1,
+    3,
+    6,
+    9,
+    12,
+    18,
+    24,
+    36,
+    48,
+    60,
+    72,
+    84,
+    96,
+    108,
+    120,
+    180,
+    240,
+    600,
+];
+
+fn due_by(end: u32, period: u32, count: u32) -> u32
+    requires { ⌜ 1 ≤ period ⌝ }
+    ensures { λ r. ⌜ r ≡ min count (end / period) ⌝ }
+{
+    let periods = end / period;
+    if count < periods {
+        return count;
+    }
+    periods
+}
+
+fn coupon_row(period: u32, count: u32, coupon: u32, row: &mut [u64])
+    requires { ⌜ (1 ≤ period) × (period * count ≤ 600) × (coupon ≤ billion) × (length (now row) ≡ buckets) ⌝ }
+    ensures { λ _. ⌜ now (row .exit) ≡ tabulate (couponsDue period count coupon) buckets ⌝ }
+{
+    let ends = MONTH_ENDS;
+    let mut before: u32 = 0;
+    let mut k: usize = 0;
+    while k < 19 {
+        let by = due_by(ends[k], period, count);
+        row[k] = ((by - before) as u64) * (coupon as u64);
+        before = by;
+        k += 1;
+    }
+}
+
+pub fn slot_coupons(s: Coupons, section: &mut [i64], sizes: &mut [u64]) -> Slotted
+    requires { ⌜ SoundFlows (couponsOf s) ⌝ }
+    requires { ⌜ FlowParts (now section) (now sizes) ⌝ }
+    ensures { λ r. ⌜ FlowsSlotted (flows (s .currency) (couponsOf s)) (now (section .entry)) (now (sizes .entry)) r (now (section .exit)) (now (sizes .exit)) ⌝ }
+{
+    let principal = s.principal as u64;
+    let mut row = [0u64; 19];
+    coupon_row(s.period, s.count, s.coupon, &mut row);
+    let last = bucket_of(s.period * s.count, 0) - 1;
+    row[last] += principal;
+    let size = (s.count as u64) * (s.coupon as u64) + principal;
+    enter_row(&row, s.side, size, section, sizes)
+}

@@ -1,0 +1,135 @@
+// Kind 5, an asset: in each bucket what is paid, prepaid and due as interest; the balance is carried from bucket to bucket.
+ghost use mathlib.Core.Bool.{false, _&&_};
+ghost use mathlib.Core.Path.{_≡_};
+ghost use Prim.Native.Nat.{_+_, _-_, _/_, _%_, _≤_};
+ghost use lib.ListN.{length};
+ghost use Rattle.laws.specs.Tests.{_is_, _below_};
+ghost use Rattle.laws.specs.Sums.{sum, sumOf};
+ghost use Rattle.laws.specs.Lists.{tabulate};
+ghost use Rattle.paper.specs.Scales.{billion};
+ghost use Rattle.paper.specs.Ladder.{buckets};
+ghost use Rattle.paper.specs.Records.{flows};
+ghost use Rattle.paper.specs.Behaviour.{wholeRate, prepaymentRate, paid, prepaid, interest, loanFlow};
+ghost use Rattle.paper.specs.Flow.{scenarios};
+ghost use Rattle.paper.specs.Ledger.{sectionSize};
+ghost use Rattle.paper.proofs.Sound.{SoundFlows};
+ghost use Rattle.record.specs.Told.{amountsFrom};
+ghost use Rattle.slotting.specs.Meant.{loanOf};
+ghost use Rattle.posting.specs.Parts.{FlowParts};
+ghost use Rattle.slotting.specs.Parts.{FlowsSlotted};
+ghost use Rattle.slotting.specs.Parts.{SoundSchedule};
+use posting::Slotted;
+use posting::amounts::amount_of;
+use posting::amounts::sum_from;
+use posting::flows::enter;
+use posting::rates::rate_of;
+use record::loan::Loan;
+
+// A bucket's flow, and what is outstanding after it.
+struct Step {
+    flow: u64,
+    left: u64,
+}
+
+fn paid(scheduled: u64, outstanding: u64) -> u64
+    ensures { λ r. ⌜ (r ≡ paid scheduled outstanding) × (r ≤ outstanding) ⌝ }
+{
+    if scheduled < outstanding {
+        return scheduled;
+    }
+    outstanding
+}
+
+// The rate's part of the balance before payment, at most what payment leaves.
+fn prepaid(rate: u64, scheduled: u64, outstanding: u64) -> u64
+    requires { ⌜ (rate ≤ wholeRate) × (outstanding ≤ billion) ⌝ }
+    ensures { λ r. ⌜ (r ≡ prepaid rate scheduled outstanding) × (paid scheduled outstanding + r ≤ outstanding) ⌝ }
+{
+    let part = outstanding * rate / 100000;
+    let left = outstanding - paid(scheduled, outstanding);
+    if part < left {
+        return part;
+    }
+    left
+}
+
+// Scheduled interest in the proportion of the balance to the scheduled one.
+fn interest(scheduled: u64, outstanding: u64, remaining: u64) -> u64
+    requires { ⌜ (scheduled ≤ billion) × (outstanding ≤ remaining) × (remaining ≤ billion) ⌝ }
+    requires { ⌜ (0 below scheduled && remaining is 0) ≡ false ⌝ }
+    ensures { λ r. ⌜ (r ≡ interest scheduled outstanding remaining) × (r ≤ scheduled) ⌝ }
+{
+    if scheduled == 0 {
+        return 0;
+    }
+    scheduled * outstanding / remaining
+}
+
+// One bucket: its scheduled principal and interest, and the balance and the scheduled one before payment.
+fn bucket_step(rate: u64, principal: u64, charge: u64, outstanding: u64, remaining: u64) -> Step
+    requires { ⌜ (rate ≤ wholeRate) × (charge ≤ billion) × (outstanding ≤ remaining) × (remaining ≤ billion) ⌝ }
+    requires { ⌜ (0 below charge && remaining is 0) ≡ false ⌝ }
+    ensures { λ r. ⌜ r .flow ≡ paid principal outstanding + prepaid rate principal outstanding + interest charge outstanding remaining ⌝ }
+    ensures { λ r. ⌜ r .left ≡ outstanding - paid principal outstanding - prepaid rate principal outstanding ⌝ }
+{
+    let scheduled = paid(principal, outstanding);
+    let early = prepaid(rate, principal, outstanding);
+    Step {
+        flow: scheduled + early + interest(charge, outstanding, remaining),
+        left: outstanding - scheduled - early,
+    }
+}
+
+// One scenario's nineteen flows, and their sum.
+fn loan_row(body: &[u8], rate: u64, principal: u64, row: &mut [u64]) -> u64
+    requires { ⌜ (length (now body) ≡ 155) × (rate ≤ wholeRate) × (length (now row) ≡ buckets) ⌝ }
+    requires { ⌜ (principal ≡ sumOf (amountsFrom (now body) 3)) × SoundSchedule (amountsFrom (now body) 3) (amountsFrom (now body) 79) ⌝ }
+    ensures { λ r. ⌜ now (row .exit) ≡ tabulate (loanFlow rate (amountsFrom (now (body .entry)) 3) (amountsFrom (now (body .entry)) 79)) buckets ⌝ }
+    ensures { λ r. ⌜ r ≡ sum (loanFlow rate (amountsFrom (now (body .entry)) 3) (amountsFrom (now (body .entry)) 79)) buckets ⌝ }
+{
+    let mut outstanding = principal;
+    let mut remaining = principal;
+    let mut total: u64 = 0;
+    let mut k: usize = 0;
+    while k < 19 {
+        let scheduled = amount_of(body, 3, k);
+        let charge = amount_of(body, 79, k);
+        let s = bucket_step(rate, scheduled, charge, outstanding, remaining);
+        row[k] = s.flow;
+        total += s.flow;
+        outstanding = s.left;
+        remaining -= scheduled;
+        k += 1;
+    }
+    total
+}
+
+// All seven scenarios, nineteen flows each, and the sum of each.
+fn loan_flows(body: &[u8], share: u32, flows: &mut [u64], more: &mut [u64])
+    requires { ⌜ (length (now body) ≡ 155) × (share ≤ 10000) × (length (now flows) ≡ sectionSize) × (length (now more) ≡ scenarios) ⌝ }
+    requires { ⌜ SoundSchedule (amountsFrom (now body) 3) (amountsFrom (now body) 79) ⌝ }
+    ensures { λ _. ⌜ now (flows .exit) ≡ tabulate (λ j. loanFlow (prepaymentRate share (j / buckets)) (amountsFrom (now (body .entry)) 3) (amountsFrom (now (body .entry)) 79) (j % buckets)) sectionSize ⌝ }
+    ensures { λ _. ⌜ now (more .exit) ≡ tabulate (λ i. sum (loanFlow (prepaymentRate share i) (amountsFrom (now (body .entry)) 3) (amountsFrom (now (body .entry)) 79)) buckets) scenarios ⌝ }
+{
+    let multipliers = [10u32, 8, 12, 8, 12, 8, 12];
+    let principal = sum_from(body, 3);
+    let mut i: usize = 0;
+    while i < 7 {
+        let rate = rate_of(share, multipliers[i]);
+        let from = 19 * i;
+        let to = from + 19;
+        more[i] = loan_row(body, rate, principal, &mut flows[from..to]);
+        i += 1;
+    }
+}
+
+pub fn slot_loan(l: Loan, body: &[u8], section: &mut [i64], sizes: &mut [u64]) -> Slotted
+    requires { ⌜ (length (now body) ≡ 155) × SoundFlows (loanOf l (now body)) ⌝ }
+    requires { ⌜ FlowParts (now section) (now sizes) ⌝ }
+    ensures { λ r. ⌜ FlowsSlotted (flows (l .currency) (loanOf l (now (body .entry)))) (now (section .entry)) (now (sizes .entry)) r (now (section .exit)) (now (sizes .exit)) ⌝ }
+{
+    let mut flows = [0u64; 133];
+    let mut more = [0u64; 7];
+    loan_flows(body, l.share, &mut flows, &mut more);
+    enter(&flows, 1, &more, section, sizes)
+}

@@ -1,0 +1,79 @@
+// Kind 6, a liability: from each bucket's amount the part at the scenario's rate, rounded down, moves to bucket 1; the rest stays.
+ghost use mathlib.Core.Path.{_≡_};
+ghost use Prim.Native.Nat.{_/_, _%_, _<_, _≤_};
+ghost use lib.ListN.{length};
+ghost use Rattle.laws.specs.Lists.{tabulate};
+ghost use Rattle.paper.specs.Scales.{billion};
+ghost use Rattle.paper.specs.Ladder.{buckets};
+ghost use Rattle.paper.specs.Records.{flows};
+ghost use Rattle.paper.specs.Behaviour.{wholeRate, moved, withdrawalRate, termDepositFlow};
+ghost use Rattle.paper.specs.Ledger.{sectionSize};
+ghost use Rattle.paper.proofs.Sound.{SoundFlows};
+ghost use Rattle.record.specs.Told.{amountsFrom};
+ghost use Rattle.slotting.specs.Meant.{termDepositOf};
+ghost use Rattle.posting.specs.Parts.{AtMost, FlowParts};
+ghost use Rattle.slotting.specs.Parts.{FlowsSlotted};
+use posting::Slotted;
+use posting::amounts::amount_of;
+use posting::amounts::sum_from;
+use posting::flows::enter;
+use posting::rates::rate_of;
+use record::term_deposit::TermDeposit;
+
+fn moved(rate: u64, amount: u64) -> u64
+    requires { ⌜ (rate ≤ wholeRate) × (amount ≤ billion) ⌝ }
+    ensures { λ r. ⌜ (r ≡ moved rate amount) × (r ≤ amount) ⌝ }
+{
+    amount * rate / 100000
+}
+
+// One scenario's nineteen flows.
+fn withdrawn(body: &[u8], rate: u64, row: &mut [u64])
+    requires { ⌜ (length (now body) ≡ 79) × (rate ≤ wholeRate) × (length (now row) ≡ buckets) ⌝ }
+    requires { ⌜ AtMost billion (amountsFrom (now body) 3) ⌝ }
+    ensures { λ _. ⌜ now (row .exit) ≡ tabulate (termDepositFlow rate (amountsFrom (now (body .entry)) 3)) buckets ⌝ }
+{
+    let mut early: u64 = 0;
+    let mut k: usize = 0;
+    while k < 19 {
+        let amount = amount_of(body, 3, k);
+        let part = moved(rate, amount);
+        row[k] = amount - part;
+        early += part;
+        k += 1;
+    }
+    row[0] += early;
+}
+
+// All seven scenarios, nineteen flows each.
+fn withdrawn_flows(body: &[u8], share: u32, flows: &mut [u64])
+    requires { ⌜ (length (now body) ≡ 79) × (share ≤ 10000) × (length (now flows) ≡ sectionSize) ⌝ }
+    requires { ⌜ AtMost billion (amountsFrom (now body) 3) ⌝ }
+    ensures { λ _. ⌜ now (flows .exit) ≡ tabulate (λ j. termDepositFlow (withdrawalRate share (j / buckets)) (amountsFrom (now (body .entry)) 3) (j % buckets)) sectionSize ⌝ }
+{
+    let multipliers = [10u32, 12, 8, 8, 12, 12, 8];
+    let mut i: usize = 0;
+    while i < 7 {
+        let rate = rate_of(share, multipliers[i]);
+        let from = 19 * i;
+        let to = from + 19;
+        withdrawn(body, rate, &mut flows[from..to]);
+        i += 1;
+    }
+}
+
+pub fn slot_term_deposit(
+    d: TermDeposit,
+    body: &[u8],
+    section: &mut [i64],
+    sizes: &mut [u64],
+) -> Slotted
+    requires { ⌜ (length (now body) ≡ 79) × SoundFlows (termDepositOf d (now body)) ⌝ }
+    requires { ⌜ FlowParts (now section) (now sizes) ⌝ }
+    ensures { λ r. ⌜ FlowsSlotted (flows (d .currency) (termDepositOf d (now (body .entry)))) (now (section .entry)) (now (sizes .entry)) r (now (section .exit)) (now (sizes .exit)) ⌝ }
+{
+    let more = [sum_from(body, 3); 7];
+    let mut flows = [0u64; 133];
+    withdrawn_flows(body, d.share, &mut flows);
+    enter(&flows, 2, &more, section, sizes)
+}
