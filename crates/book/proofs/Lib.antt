@@ -2,6 +2,12 @@
 pub mod Holding
 pub mod Sets
 pub mod Missing
+pub mod Taking
+pub mod Returned
+pub mod Alike
+pub mod Room
+pub mod Stepping
+pub mod Curving
 pub mod Walking
 -- what `assess` promises
 pub mod Truth

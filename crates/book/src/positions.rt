@@ -1,0 +1,233 @@
+// The record at a place, kind by kind: cut short, or its body, a part from the middle of the book, is handed to its kind's decoder, and what that reads
+// is slotted into its currency's section of the ledger.
+ghost use mathlib.Core.Path.{_≡_};
+ghost use Prim.Native.Nat.{_+_, _-_, _<_, _≤_};
+ghost use lib.ListN.{length};
+ghost use Rattle.paper.specs.Decode.{decodeSingle, decodeCoupons, decodeFloating, decodeDeposit, decodeLoan, decodeTermDeposit, decodeOption};
+ghost use Rattle.book.specs.Take.{bodyAt, FlowArrays, FlowsTaken, OptionArrays, OptionTaken};
+use crate::masks::Masks;
+use crate::step::Step;
+use crate::step::slotted_step;
+use paper::Refusal;
+use record::coupons::DecodedCoupons;
+use record::coupons::decode_coupons;
+use record::deposit::DecodedDeposit;
+use record::deposit::decode_deposit;
+use record::floating::DecodedFloating;
+use record::floating::decode_floating;
+use record::loan::DecodedLoan;
+use record::loan::decode_loan;
+use record::option_add_on::DecodedOption;
+use record::option_add_on::decode_option;
+use record::single::DecodedSingle;
+use record::single::decode_single;
+use record::term_deposit::DecodedTermDeposit;
+use record::term_deposit::decode_term_deposit;
+use slotting::coupons::slot_coupons;
+use slotting::deposit::slot_deposit;
+use slotting::loan::slot_loan;
+use slotting::option_add_on::slot_option;
+use slotting::single::slot_floating;
+use slotting::single::slot_single;
+use slotting::term_deposit::slot_term_deposit;
+
+// Parts are counted from 0, currencies from 1.
+pub fn part_of(currency: u32) -> usize
+    requires { ⌜ 1 ≤ currency ⌝ }
+    ensures { λ r. ⌜ r ≡ currency - 1 ⌝ }
+{
+    (currency - 1) as usize
+}
+
+pub fn take_single(book: &[u8], at: usize, m: Masks, ledger: &mut [i64], sizes: &mut [u64]) -> Step
+    requires { ⌜ (at < length (now book)) × (length (now book) ≤ 65528) ⌝ }
+    requires { ⌜ FlowArrays (now ledger) (now sizes) ⌝ }
+    ensures { λ r. ⌜ FlowsTaken (bodyAt 9 decodeSingle (now (book .entry)) at) (at + 10) m (now (ledger .entry)) (now (sizes .entry)) r (now (ledger .exit)) (now (sizes .exit)) ⌝ }
+{
+    let start = at + 1;
+    let next = at + 10;
+    if book.len() < next {
+        return Step::Refused(Refusal::CutShort);
+    }
+    match decode_single(&book[start..next]) {
+        DecodedSingle::Refused(cause) => Step::Refused(cause),
+        DecodedSingle::Is(s) => {
+            let part = part_of(s.currency);
+            let cell = 133 * part;
+            let cells = cell + 133;
+            let size = 7 * part;
+            let sums = size + 7;
+            let answer = slot_single(s, &mut ledger[cell..cells], &mut sizes[size..sums]);
+            slotted_step(answer, next, m, s.currency)
+        }
+    }
+}
+
+pub fn take_coupons(book: &[u8], at: usize, m: Masks, ledger: &mut [i64], sizes: &mut [u64]) -> Step
+    requires { ⌜ (at < length (now book)) × (length (now book) ≤ 65528) ⌝ }
+    requires { ⌜ FlowArrays (now ledger) (now sizes) ⌝ }
+    ensures { λ r. ⌜ FlowsTaken (bodyAt 13 decodeCoupons (now (book .entry)) at) (at + 14) m (now (ledger .entry)) (now (sizes .entry)) r (now (ledger .exit)) (now (sizes .exit)) ⌝ }
+{
+    let start = at + 1;
+    let next = at + 14;
+    if book.len() < next {
+        return Step::Refused(Refusal::CutShort);
+    }
+    match decode_coupons(&book[start..next]) {
+        DecodedCoupons::Refused(cause) => Step::Refused(cause),
+        DecodedCoupons::Is(s) => {
+            let part = part_of(s.currency);
+            let cell = 133 * part;
+            let cells = cell + 133;
+            let size = 7 * part;
+            let sums = size + 7;
+            let answer = slot_coupons(s, &mut ledger[cell..cells], &mut sizes[size..sums]);
+            slotted_step(answer, next, m, s.currency)
+        }
+    }
+}
+
+pub fn take_floating(
+    book: &[u8],
+    at: usize,
+    m: Masks,
+    ledger: &mut [i64],
+    sizes: &mut [u64],
+) -> Step
+    requires { ⌜ (at < length (now book)) × (length (now book) ≤ 65528) ⌝ }
+    requires { ⌜ FlowArrays (now ledger) (now sizes) ⌝ }
+    ensures { λ r. ⌜ FlowsTaken (bodyAt 13 decodeFloating (now (book .entry)) at) (at + 14) m (now (ledger .entry)) (now (sizes .entry)) r (now (ledger .exit)) (now (sizes .exit)) ⌝ }
+{
+    let start = at + 1;
+    let next = at + 14;
+    if book.len() < next {
+        return Step::Refused(Refusal::CutShort);
+    }
+    match decode_floating(&book[start..next]) {
+        DecodedFloating::Refused(cause) => Step::Refused(cause),
+        DecodedFloating::Is(s) => {
+            let part = part_of(s.currency);
+            let cell = 133 * part;
+            let cells = cell + 133;
+            let size = 7 * part;
+            let sums = size + 7;
+            let answer = slot_floating(s, &mut ledger[cell..cells], &mut sizes[size..sums]);
+            slotted_step(answer, next, m, s.currency)
+        }
+    }
+}
+
+pub fn take_deposit(book: &[u8], at: usize, m: Masks, ledger: &mut [i64], sizes: &mut [u64]) -> Step
+    requires { ⌜ (at < length (now book)) × (length (now book) ≤ 65528) ⌝ }
+    requires { ⌜ FlowArrays (now ledger) (now sizes) ⌝ }
+    ensures { λ r. ⌜ FlowsTaken (bodyAt 82 decodeDeposit (now (book .entry)) at) (at + 83) m (now (ledger .entry)) (now (sizes .entry)) r (now (ledger .exit)) (now (sizes .exit)) ⌝ }
+{
+    let start = at + 1;
+    let next = at + 83;
+    if book.len() < next {
+        return Step::Refused(Refusal::CutShort);
+    }
+    let body = &book[start..next];
+    match decode_deposit(body) {
+        DecodedDeposit::Refused(cause) => Step::Refused(cause),
+        DecodedDeposit::Is(s) => {
+            let part = part_of(s.currency);
+            let cell = 133 * part;
+            let cells = cell + 133;
+            let size = 7 * part;
+            let sums = size + 7;
+            let answer = slot_deposit(s, body, &mut ledger[cell..cells], &mut sizes[size..sums]);
+            slotted_step(answer, next, m, s.currency)
+        }
+    }
+}
+
+pub fn take_loan(book: &[u8], at: usize, m: Masks, ledger: &mut [i64], sizes: &mut [u64]) -> Step
+    requires { ⌜ (at < length (now book)) × (length (now book) ≤ 65528) ⌝ }
+    requires { ⌜ FlowArrays (now ledger) (now sizes) ⌝ }
+    ensures { λ r. ⌜ FlowsTaken (bodyAt 155 decodeLoan (now (book .entry)) at) (at + 156) m (now (ledger .entry)) (now (sizes .entry)) r (now (ledger .exit)) (now (sizes .exit)) ⌝ }
+{
+    let start = at + 1;
+    let next = at + 156;
+    if book.len() < next {
+        return Step::Refused(Refusal::CutShort);
+    }
+    let body = &book[start..next];
+    match decode_loan(body) {
+        DecodedLoan::Refused(cause) => Step::Refused(cause),
+        DecodedLoan::Is(s) => {
+            let part = part_of(s.currency);
+            let cell = 133 * part;
+            let cells = cell + 133;
+            let size = 7 * part;
+            let sums = size + 7;
+            let answer = slot_loan(s, body, &mut ledger[cell..cells], &mut sizes[size..sums]);
+            slotted_step(answer, next, m, s.currency)
+        }
+    }
+}
+
+pub fn take_term_deposit(
+    book: &[u8],
+    at: usize,
+    m: Masks,
+    ledger: &mut [i64],
+    sizes: &mut [u64],
+) -> Step
+    requires { ⌜ (at < length (now book)) × (length (now book) ≤ 65528) ⌝ }
+    requires { ⌜ FlowArrays (now ledger) (now sizes) ⌝ }
+    ensures { λ r. ⌜ FlowsTaken (bodyAt 79 decodeTermDeposit (now (book .entry)) at) (at + 80) m (now (ledger .entry)) (now (sizes .entry)) r (now (ledger .exit)) (now (sizes .exit)) ⌝ }
+{
+    let start = at + 1;
+    let next = at + 80;
+    if book.len() < next {
+        return Step::Refused(Refusal::CutShort);
+    }
+    let body = &book[start..next];
+    match decode_term_deposit(body) {
+        DecodedTermDeposit::Refused(cause) => Step::Refused(cause),
+        DecodedTermDeposit::Is(s) => {
+            let part = part_of(s.currency);
+            let cell = 133 * part;
+            let cells = cell + 133;
+            let size = 7 * part;
+            let sums = size + 7;
+            let answer = slot_term_deposit(
+                s,
+                body,
+                &mut ledger[cell..cells],
+                &mut sizes[size..sums],
+            );
+            slotted_step(answer, next, m, s.currency)
+        }
+    }
+}
+
+// Kind 7 makes no flow: its values join the currency's add-ons.
+pub fn take_option(
+    book: &[u8],
+    at: usize,
+    m: Masks,
+    options: &mut [u64],
+    addons: &mut [i64],
+) -> Step
+    requires { ⌜ (at < length (now book)) × (length (now book) ≤ 65528) ⌝ }
+    requires { ⌜ OptionArrays (now options) (now addons) ⌝ }
+    ensures { λ r. ⌜ OptionTaken (bodyAt 26 decodeOption (now (book .entry)) at) (at + 27) m (now (options .entry)) (now (addons .entry)) r (now (options .exit)) (now (addons .exit)) ⌝ }
+{
+    let start = at + 1;
+    let next = at + 27;
+    if book.len() < next {
+        return Step::Refused(Refusal::CutShort);
+    }
+    match decode_option(&book[start..next]) {
+        DecodedOption::Refused(cause) => Step::Refused(cause),
+        DecodedOption::Is(s) => {
+            let part = part_of(s.currency);
+            let value = 6 * part;
+            let values = value + 6;
+            let answer = slot_option(s, &mut options[value..values], &mut addons[value..values]);
+            slotted_step(answer, next, m, s.currency)
+        }
+    }
+}
