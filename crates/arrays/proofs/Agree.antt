@@ -20,8 +20,9 @@ use Rattle.paper.specs.Fields.{byte, currencyAt}
 use Rattle.paper.specs.Decode.{decodeCurve, decode}
 use Rattle.paper.specs.Book.{placed, admitted, recordAt}
 use Rattle.paper.proofs.Known.{Known, known-of, field-known}
-use Rattle.paper.proofs.Ranges.{Between, currency-range}
-use Rattle.paper.proofs.Sound.{Sound, decode-sound}
+use Rattle.paper.specs.Sound.{Between, Sound}
+use Rattle.paper.proofs.Ranges.{currency-range}
+use Rattle.paper.proofs.Sound.{decode-sound}
 
 pub record Agree (before after : SoFar) : Type 0 where
   pub curved : (c : ℕ) → 1 ≤ c → c ≤ currencies → before .curved c ≡ after .curved c

@@ -28,7 +28,7 @@ use Rattle.paper.specs.Decode.{decode}
 use Rattle.paper.specs.Book.{placed, admitted, recordAt}
 use Rattle.paper.proofs.Known.{Known, known, gone, known-of, either, placed-known}
 use Rattle.paper.proofs.KindOf.{FlowsOnly, AddOnOnly, CurveOnly}
-use Rattle.paper.proofs.Ranges.{Between}
+use Rattle.paper.specs.Sound.{Between}
 use Rattle.arrays.specs.Rooms.{sizeBy, optionSizeBy, soFarBy}
 use Rattle.arrays.specs.Slots.{roomFor}
 use Rattle.arrays.proofs.Agree.{bind-ext}

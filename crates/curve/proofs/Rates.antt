@@ -17,8 +17,8 @@ use Rattle.laws.proofs.Lists.{tabulate-at, tabulate-past}
 use Rattle.paper.specs.Scales.{billion}
 use Rattle.paper.specs.Curve.{Curve, quarter, shortShare, shockedRate}
 use Rattle.paper.specs.TurnedDown.{badRate, badShocked}
-use Rattle.paper.proofs.Ranges.{Ranged, rate-range}
-use Rattle.paper.proofs.Known.{Listed}
+use Rattle.paper.specs.Sound.{Ranged, Listed}
+use Rattle.paper.proofs.Ranges.{rate-range}
 use Rattle.paper.proofs.SeriesLaws.{under-least, over-positive}
 use Rattle.curve.specs.Shocked.{shortShares, shockedSection}
 use Rattle.curve.proofs.Changes.{no-change}

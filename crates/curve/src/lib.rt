@@ -9,8 +9,7 @@ ghost use Rattle.laws.specs.Lists.{tabulate};
 ghost use Rattle.paper.specs.Scales.{billion};
 ghost use Rattle.paper.specs.Curve.{rateChanges, shockedRate};
 ghost use Rattle.paper.specs.TurnedDown.{badShocked};
-ghost use Rattle.paper.proofs.Ranges.{Ranged};
-ghost use Rattle.paper.proofs.Known.{Listed};
+ghost use Rattle.paper.specs.Sound.{Ranged, Listed};
 ghost use Rattle.curve.specs.Shocked.{shocksOf, curveOf, Sized, twisted, shortShares, shockedSection};
 use ladder::Millionths;
 

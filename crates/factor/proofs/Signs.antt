@@ -7,8 +7,7 @@ use Rattle.laws.specs.Integers.{up, down}
 use Rattle.laws.proofs.Integers.{side, add-up, add-down}
 use Rattle.laws.proofs.Order.{ints}
 use Rattle.paper.specs.Scales.{billion}
-use Rattle.paper.specs.Factor.{afterDigits, lowStart, lowEnd, factor}
-use Rattle.paper.proofs.FactorClose.{InRange}
+use Rattle.paper.specs.Factor.{afterDigits, lowStart, lowEnd, factor, InRange}
 
 -- below zero, Y counts up from -1.25
 pub counted : (X : ℤ) → InRange X → 0 < down X → pos lowEnd +ℤ X ≡ pos (lowEnd - down X)

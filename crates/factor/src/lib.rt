@@ -3,8 +3,7 @@ ghost use mathlib.Core.Path.{_≡_};
 ghost use Prim.Native.Nat.{_*_, _^_, _<_, _≤_};
 ghost use Rattle.laws.specs.Nearest.{nearest};
 ghost use Rattle.paper.specs.Scales.{billion};
-ghost use Rattle.paper.specs.Factor.{afterDigits, lowStart, factor};
-ghost use Rattle.paper.proofs.FactorClose.{InRange};
+ghost use Rattle.paper.specs.Factor.{afterDigits, lowStart, factor, InRange};
 ghost use Rattle.factor.specs.Table.{rows};
 use ladder::Exponent;
 

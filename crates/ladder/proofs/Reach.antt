@@ -14,7 +14,7 @@ use Rattle.laws.proofs.Integers.{abs-is, mul-up, mul-down}
 use Rattle.laws.proofs.Order.{ints}
 use Rattle.paper.specs.Ladder.{midpoints, midpoint}
 use Rattle.paper.specs.Change.{exponent}
-use Rattle.paper.proofs.Ranges.{Ranged}
+use Rattle.paper.specs.Sound.{Ranged}
 use Rattle.ladder.specs.Reach.{OnLadder, IsExponent}
 
 pub midpoint-most : (k : ℕ) → midpoint k ≤ 250000

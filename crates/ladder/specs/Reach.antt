@@ -4,7 +4,7 @@ use mathlib.Core.Path.{_≡_}
 use lib.IntN.{ℤ, pos}
 use Rattle.paper.specs.Ladder.{midpoint}
 use Rattle.paper.specs.Change.{exponent}
-use Rattle.paper.proofs.FactorClose.{InRange}
+use Rattle.paper.specs.Factor.{InRange}
 
 -- the midpoint of some bucket
 abbrev pub OnLadder : ℤ → Type 0

@@ -5,7 +5,7 @@ ghost use lib.IntN.{pos};
 ghost use Rattle.laws.specs.Tests.{if_then_else_};
 ghost use Rattle.paper.specs.Ladder.{notAfter, bucketOf, midpoints, midpoint};
 ghost use Rattle.paper.specs.Flow.{sided};
-ghost use Rattle.paper.proofs.Ranges.{Ranged};
+ghost use Rattle.paper.specs.Sound.{Ranged};
 ghost use Rattle.ladder.specs.Reach.{OnLadder, IsExponent};
 
 // Rates.

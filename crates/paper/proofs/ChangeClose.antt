@@ -18,12 +18,12 @@ use Rattle.laws.proofs.Order.{le-of}
 use Rattle.laws.proofs.Ratio.{within-add, within-sub, within-whole, within-over, within-nil, within-equal, sum-within}
 use Rattle.paper.specs.Scales.{billion}
 use Rattle.paper.specs.Ladder.{buckets, midpoints, midpoint}
-use Rattle.paper.specs.Factor.{factor}
+use Rattle.paper.specs.Factor.{factor, InRange}
 use Rattle.paper.specs.Flow.{scenarios}
 use Rattle.paper.specs.Ledger.{Totals}
 use Rattle.paper.specs.Change.{exponent, value, change, netSize, toleranceOf, tolerance}
 use Rattle.paper.specs.Exact.{exactFactor, exactValue, exactChange}
-use Rattle.paper.proofs.FactorClose.{InRange, factor-close}
+use Rattle.paper.proofs.FactorClose.{factor-close}
 
 -- every exponent lies where a factor is close: so it is in an accepted book
 pub record Rated (t : Totals) : Type 0 where

@@ -5,7 +5,6 @@ use native.Mathlib.Nat.{le-refl, le-trans, mul-le-mul-right, div-add-mod, div-di
 use native.Mathlib.Omega.{arith}
 use lib.Dec.{lit<, lit≤}
 use lib.IntN.{ℤ, pos, negsuc, negℤ}
-use lib.Signed.{_≤ℤ_}
 use Rattle.laws.specs.Sums.{sum}
 use Rattle.laws.specs.Nearest.{nearest}
 use Rattle.laws.specs.Ratio.{Within}
@@ -15,7 +14,7 @@ use Rattle.laws.proofs.Nearest.{Nearest, nearest-is}
 use Rattle.laws.proofs.Ratio.{within-nat}
 use Rattle.paper.specs.Scales.{exponentScale, billion}
 use Rattle.paper.specs.Series.{seriesTerm, over, under}
-use Rattle.paper.specs.Factor.{entry, digit, afterDigits, lowStart, lowEnd, factor}
+use Rattle.paper.specs.Factor.{entry, digit, afterDigits, lowStart, lowEnd, factor, InRange}
 use Rattle.paper.specs.Exact.{exactFactor}
 use Rattle.paper.proofs.SeriesLaws.{under-positive, under-least, over-positive, over-zero, product-least, product-most}
 use Rattle.paper.proofs.FactorStep.{Quarters, Multiplies, step, entry-most, next-most, end}
@@ -119,11 +118,6 @@ rising Y h =
     (after-all lowStart Y (le-refl lowStart) (omega arith))
 
 -- ---- the theorems
-
--- from -12,500,000,000 up to 99,999,999,999: every exponent that a rate of -50,000 to 300,000 and a midpoint make, with no list of midpoints
-pub record InRange (X : ℤ) : Type 0 where
-  pub low : negℤ (pos 12500000000) ≤ℤ X
-  pub high : X ≤ℤ pos 99999999999
 
 pub factor-close : (X : ℤ) → InRange X → Within 26 (pos (factor X)) (exactFactor X)
 unfolding factor exactFactor

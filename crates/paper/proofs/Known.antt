@@ -10,6 +10,7 @@ use Rattle.paper.specs.declared.Refusal.{Refusal}
 use Rattle.paper.specs.Refusals.{Checked, accepted, refused, _>>=_, _>>_, unless, refuseIf}
 use Rattle.paper.specs.Fields.{field, each}
 use Rattle.paper.specs.Book.{placed}
+use Rattle.paper.specs.Sound.{Listed}
 
 pub data Known {A : Type 0} (P : A → Type 0) : Checked A → Type 0 where
   known : {a : A} → P a → Known P (accepted a)
@@ -51,11 +52,7 @@ unfolding placed
 placed-known at (known h) = known h
 placed-known at gone = gone
 
--- ---- a list of fields: so many, and each as its reader knows
-
-pub record Listed {A : Type 0} (P : A → Type 0) (n : ℕ) (xs : List A) : Type 0 where
-  pub long : length xs ≡ n
-  pub at : (d : A) (k : ℕ) → k < n → P (getD xs k d)
+-- ---- a list of fields
 
 listed-more : {A : Type 0} {P : A → Type 0} {n : ℕ} {x : A} {xs : List A} → P x → Listed P n xs → Listed P (suc n) (x ∷ xs)
 listed-more {A = A} {P = P} {n = n} {x = x} {xs = xs} px h = record { long = ap suc (h .long); at = get }

@@ -15,10 +15,7 @@ use Rattle.laws.proofs.Order.{ltZ-false}
 use Rattle.paper.specs.Scales.{billion}
 use Rattle.paper.specs.Records.{currencies}
 use Rattle.paper.specs.TurnedDown.{badCurrency, badSide, badMonths, badDays, badPeriod, badCount, badAmount, badOption, badShare, badCategory, badRate, badShock}
-
-pub record Between (low high x : ℕ) : Type 0 where
-  pub from : low ≤ x
-  pub to : x ≤ high
+use Rattle.paper.specs.Sound.{Between, Counted, Small, Ranged}
 
 between-tested : (low high x : ℕ) → not (low upTo x && x upTo high) ≡ false → Between low high x
 between-tested low high x e =
@@ -70,28 +67,15 @@ period-range p e =
     this : (q : ℕ) → 1 ≤ q → q ≤ 12 → (p is q) ≡ true → Between 1 12 p
     this q low high t = let same = eqb-true p q t in record { from = omega arith; to = omega arith }
 
--- a count is some, and the last month is at most 600
-pub record Counted (period count : ℕ) : Type 0 where
-  pub some : 1 ≤ count
-  pub last : period * count ≤ 600
-
 pub count-range : (period count : ℕ) → badCount period count ≡ false → Counted period count
 unfolding badCount
 count-range period count e =
     let both = or-false (count below 1) (600 below period * count) e in
     record { some = ltb-false _ _ (both .0); last = ltb-false _ _ (both .1) }
 
-pub record Small (z : ℤ) : Type 0 where
-  pub small : natAbs z ≤ billion
-
 pub option-range : (z : ℤ) → badOption z ≡ false → Small z
 unfolding badOption
 option-range z e = record { small = ltb-false _ _ e }
-
--- -50,000 to 300,000
-pub record Ranged (z : ℤ) : Type 0 where
-  pub low : down z ≤ 50000
-  pub high : up z ≤ 300000
 
 pub rate-range : (z : ℤ) → badRate z ≡ false → Ranged z
 unfolding badRate

@@ -1,5 +1,5 @@
 -- The fields of an accepted body lie in their ranges, kind by kind.
-use Prim.Native.Nat.{ℕ, zero, suc, _+_, _*_, _≤_, _<_}
+use Prim.Native.Nat.{ℕ, zero, suc, _*_, _≤_, _<_}
 use mathlib.Core.Bool.{Bool, true, false, not}
 use mathlib.Core.List.{List}
 use mathlib.Core.Logic.{⊎-elim}
@@ -12,49 +12,16 @@ use borrow.Author.Tests.{ltb-false, not-true, not-false}
 use Rattle.laws.specs.Tests.{_is_, _below_, all, first}
 use Rattle.laws.specs.Sums.{sumOf}
 use Rattle.laws.proofs.Tests.{all-at, first-to, first-none}
-use Rattle.paper.specs.Scales.{billion}
-use Rattle.paper.specs.Ladder.{buckets, Term}
+use Rattle.paper.specs.Ladder.{buckets}
 use Rattle.paper.specs.Curve.{Curve, rateChanges, shockedRate}
-use Rattle.paper.specs.Records.{Flows, single, coupons, floating, deposit, loan, termDeposit, Record, flows, option, curve, currencies}
+use Rattle.paper.specs.Records.{Record}
 use Rattle.paper.specs.Behaviour.{coreCap}
 use Rattle.paper.specs.TurnedDown.{coreAboveCap, interestAlone, secondCurve, badRate, badShocked, scheduleOver}
 use Rattle.paper.specs.Fields.{amountAt, rateAt, optionAt, each}
 use Rattle.paper.specs.Decode.{decodeSingle, decodeCoupons, decodeFloating, decodeDeposit, decodeLoan, decodeTermDeposit, decodeOption, decodeCurve, decode}
-use Rattle.paper.proofs.Known.{Known, known, gone, chain, tested, field-known, either, Listed, each-known}
-use Rattle.paper.proofs.Ranges.{Between, Counted, Small, Ranged, currency-range, side-range, months-range, days-range, period-range, count-range, amount-range, option-range, share-range, category-range, shock-range, rate-range}
-
--- ---- what an accepted record is known to be, in the order of its fields
-
-abbrev pub Amounts : List ℕ → Type 0
-Amounts = Listed (Between 0 billion) buckets
-
-abbrev pub SoundTerm : Term → Type 0
-SoundTerm t = Between 0 600 (t .months) × Between 0 30 (t .days)
-
-unfoldable pub SoundFlows : Flows → Type 0
-SoundFlows (single side term amount) = Between 1 2 side × SoundTerm term × Between 0 billion amount
-SoundFlows (coupons side period count coupon principal) =
-    Between 1 2 side × Between 1 12 period × Counted period count × Between 0 billion coupon × Between 0 billion principal
-SoundFlows (floating side reset principal coupon) = Between 1 2 side × SoundTerm reset × Between 0 billion principal × Between 0 billion coupon
-SoundFlows (deposit category whole core) = Between 1 3 category × Between 0 billion whole × Amounts core × (sumOf core ≤ whole)
-SoundFlows (loan share principals interests) =
-    Between 0 10000 share × Amounts principals × Amounts interests × ((k : ℕ) → k < buckets → interestAlone principals interests k ≡ false)
-    × (sumOf principals + sumOf interests ≤ billion)
-SoundFlows (termDeposit share amounts) = Between 0 10000 share × Amounts amounts
-
--- the currency had no curve; every rate is in range, in the base and in the six scenarios
-pub record SoundCurve (curved : ℕ → Bool) (c : ℕ) (z : Curve) : Type 0 where
-  pub fresh : curved c ≡ false
-  pub base : Listed Ranged buckets (z .rates)
-  pub parallel : Between 0 1000 (z .shocks .parallel)
-  pub short : Between 0 1000 (z .shocks .short)
-  pub long : Between 0 1000 (z .shocks .long)
-  pub shocked : (i k : ℕ) → i < 7 → k < buckets → Ranged (shockedRate z i k)
-
-unfoldable pub Sound : (ℕ → Bool) → Record → Type 0
-Sound curved (flows c f) = Between 1 currencies c × SoundFlows f
-Sound curved (option c side values) = Between 1 currencies c × Between 1 2 side × Listed Small 6 values
-Sound curved (curve c z) = Between 1 currencies c × SoundCurve curved c z
+use Rattle.paper.specs.Sound.{Ranged, Listed, Amounts, SoundFlows, SoundCurve, Sound}
+use Rattle.paper.proofs.Known.{Known, known, gone, chain, tested, field-known, either, each-known}
+use Rattle.paper.proofs.Ranges.{currency-range, side-range, months-range, days-range, period-range, count-range, amount-range, option-range, share-range, category-range, shock-range, rate-range}
 
 -- ---- what the rules after the fields leave
 

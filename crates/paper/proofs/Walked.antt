@@ -22,8 +22,8 @@ use Rattle.paper.specs.Fields.{byte}
 use Rattle.paper.specs.Decode.{decode}
 use Rattle.paper.specs.Book.{admitted, recordAt, nextAt, walkFrom, walk, covered, outcome}
 use Rattle.paper.proofs.Known.{Known, known, gone, chain, tested, unless-known, either, placed-known}
-use Rattle.paper.proofs.Ranges.{Ranged}
-use Rattle.paper.proofs.Sound.{Sound, SoundCurve, decode-sound}
+use Rattle.paper.specs.Sound.{Ranged, Sound, SoundCurve}
+use Rattle.paper.proofs.Sound.{decode-sound}
 use Rattle.paper.proofs.Limits.{ofCurrencyℤ-more, Limited, limited-none, limited-more}
 
 pub record Good (kept : List Record) : Type 0 where

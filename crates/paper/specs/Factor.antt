@@ -1,6 +1,7 @@
 -- Discount factor, in billionths. An exponent X is in units of 10^-10.
 use Prim.Native.Nat.{ℕ, zero, suc, _*_, _-_, _/_, _%_, _^_}
-use lib.IntN.{ℤ, pos, negsuc}
+use lib.IntN.{ℤ, pos, negsuc, negℤ}
+use lib.Signed.{_≤ℤ_}
 use Rattle.laws.specs.Nearest.{nearest}
 use Rattle.paper.specs.Scales.{billion}
 use Rattle.paper.specs.Series.{over, under}
@@ -28,3 +29,8 @@ lowEnd = 12500000000
 unfoldable pub factor : ℤ → ℕ
 factor (pos X) = afterDigits billion X 11
 factor (negsuc n) = afterDigits lowStart (lowEnd - suc n) 11
+
+-- from -12,500,000,000 up to 99,999,999,999: every exponent that a rate of -50,000 to 300,000 and a midpoint make, with no list of midpoints
+pub record InRange (X : ℤ) : Type 0 where
+  pub low : negℤ (pos 12500000000) ≤ℤ X
+  pub high : X ≤ℤ pos 99999999999

@@ -11,6 +11,7 @@ pub mod Ledger
 pub mod TurnedDown
 pub mod Fields
 pub mod Decode
+pub mod Sound
 pub mod Factor
 pub mod Change
 pub mod Verdict

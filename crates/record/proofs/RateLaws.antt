@@ -18,8 +18,9 @@ use Rattle.paper.specs.TurnedDown.{badRate}
 use Rattle.paper.specs.Records.{Record}
 use Rattle.paper.specs.Fields.{four, signed, currencyAt, rateAt, each}
 use Rattle.paper.specs.Decode.{decodeCurve}
-use Rattle.paper.proofs.Known.{Listed, known-of, field-known, each-known}
-use Rattle.paper.proofs.Ranges.{Ranged, rate-range}
+use Rattle.paper.specs.Sound.{Listed, Ranged}
+use Rattle.paper.proofs.Known.{known-of, field-known, each-known}
+use Rattle.paper.proofs.Ranges.{rate-range}
 use Rattle.record.specs.declared.rates.Rates.{Rates}
 use Rattle.record.specs.declared.rates.Rates.the-variants.{All, Bad}
 use Rattle.record.specs.Told.{rateOf, ratesFrom, goodRates, ratesSet, ratesRead}

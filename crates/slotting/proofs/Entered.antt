@@ -17,7 +17,7 @@ use Rattle.paper.specs.Ladder.{buckets, Term, bucketOf}
 use Rattle.paper.specs.Records.{Record, flows, single, floating}
 use Rattle.paper.specs.Flow.{scenarios, sided, due, flowOf, flow, magnitude}
 use Rattle.paper.specs.Ledger.{sectionSize}
-use Rattle.paper.proofs.Sound.{Amounts}
+use Rattle.paper.specs.Sound.{Amounts}
 use Rattle.paper.proofs.Magnitudes.{size-single, size-floating}
 use Rattle.arrays.specs.Slots.{plus, plusℤ, withFlows, withSizes, withAddOns, withOptionSizes, roomFor, onlyIf}
 use Rattle.record.specs.Told.{amountsFrom}

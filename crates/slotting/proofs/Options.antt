@@ -17,8 +17,7 @@ use Rattle.laws.proofs.Tests.{lt-or-ge}
 use Rattle.paper.specs.Scales.{billion}
 use Rattle.paper.specs.Records.{option}
 use Rattle.paper.specs.Flow.{sided, adds}
-use Rattle.paper.proofs.Known.{Listed}
-use Rattle.paper.proofs.Ranges.{Small}
+use Rattle.paper.specs.Sound.{Listed, Small}
 use Rattle.arrays.specs.Slots.{plusℤ, withAddOns}
 use Rattle.posting.specs.Parts.{AtMostℤ}
 use Rattle.slotting.specs.Parts.{optionMagnitude}

@@ -19,7 +19,7 @@ use Rattle.paper.specs.Behaviour.{prepaymentRate, paid, prepaid, interest, outs
 use Rattle.paper.specs.Flow.{sided, flowOf, flow, magnitude}
 use Rattle.paper.specs.TurnedDown.{interestAlone}
 use Rattle.paper.proofs.Loan.{taken-so-far, on-schedule, interest-at-most}
-use Rattle.paper.proofs.Sound.{SoundFlows}
+use Rattle.paper.specs.Sound.{SoundFlows}
 use Rattle.slotting.specs.Parts.{SoundSchedule}
 use Rattle.slotting.proofs.Entered.{amounts-small}
 

@@ -8,7 +8,7 @@ ghost use Rattle.paper.specs.Scales.{billion};
 ghost use Rattle.paper.specs.Ladder.{buckets};
 ghost use Rattle.paper.specs.Records.{flows};
 ghost use Rattle.paper.specs.Flow.{couponsDue};
-ghost use Rattle.paper.proofs.Sound.{SoundFlows};
+ghost use Rattle.paper.specs.Sound.{SoundFlows};
 ghost use Rattle.slotting.specs.Meant.{couponsOf};
 ghost use Rattle.posting.specs.Parts.{FlowParts};
 ghost use Rattle.slotting.specs.Parts.{FlowsSlotted};

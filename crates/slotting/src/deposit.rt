@@ -8,7 +8,7 @@ ghost use Rattle.paper.specs.Scales.{billion};
 ghost use Rattle.paper.specs.Ladder.{buckets};
 ghost use Rattle.paper.specs.Records.{flows};
 ghost use Rattle.paper.specs.Behaviour.{depositFlow};
-ghost use Rattle.paper.proofs.Sound.{SoundFlows};
+ghost use Rattle.paper.specs.Sound.{SoundFlows};
 ghost use Rattle.record.specs.Told.{amountsFrom};
 ghost use Rattle.slotting.specs.Meant.{depositOf};
 ghost use Rattle.posting.specs.Parts.{AtMost, FlowParts};

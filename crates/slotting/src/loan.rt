@@ -12,7 +12,7 @@ ghost use Rattle.paper.specs.Records.{flows};
 ghost use Rattle.paper.specs.Behaviour.{wholeRate, prepaymentRate, paid, prepaid, interest, loanFlow};
 ghost use Rattle.paper.specs.Flow.{scenarios};
 ghost use Rattle.paper.specs.Ledger.{sectionSize};
-ghost use Rattle.paper.proofs.Sound.{SoundFlows};
+ghost use Rattle.paper.specs.Sound.{SoundFlows};
 ghost use Rattle.record.specs.Told.{amountsFrom};
 ghost use Rattle.slotting.specs.Meant.{loanOf};
 ghost use Rattle.posting.specs.Parts.{FlowParts};

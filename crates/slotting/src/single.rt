@@ -3,7 +3,7 @@ ghost use Prim.Native.Nat.{_%_, _≤_};
 ghost use Rattle.paper.specs.Ladder.{buckets};
 ghost use Rattle.paper.specs.Records.{flows};
 ghost use Rattle.paper.specs.Flow.{due};
-ghost use Rattle.paper.proofs.Sound.{SoundFlows};
+ghost use Rattle.paper.specs.Sound.{SoundFlows};
 ghost use Rattle.slotting.specs.Meant.{singleOf, floatingOf};
 ghost use Rattle.posting.specs.Parts.{FlowParts};
 ghost use Rattle.slotting.specs.Parts.{FlowsSlotted};

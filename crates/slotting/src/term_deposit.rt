@@ -8,7 +8,7 @@ ghost use Rattle.paper.specs.Ladder.{buckets};
 ghost use Rattle.paper.specs.Records.{flows};
 ghost use Rattle.paper.specs.Behaviour.{wholeRate, moved, withdrawalRate, termDepositFlow};
 ghost use Rattle.paper.specs.Ledger.{sectionSize};
-ghost use Rattle.paper.proofs.Sound.{SoundFlows};
+ghost use Rattle.paper.specs.Sound.{SoundFlows};
 ghost use Rattle.record.specs.Told.{amountsFrom};
 ghost use Rattle.slotting.specs.Meant.{termDepositOf};
 ghost use Rattle.posting.specs.Parts.{AtMost, FlowParts};

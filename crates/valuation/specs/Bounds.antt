@@ -9,7 +9,7 @@ use Rattle.paper.specs.Flow.{scenarios}
 use Rattle.paper.specs.Records.{currencies}
 use Rattle.paper.specs.Ledger.{Totals}
 use Rattle.paper.specs.Change.{netSize}
-use Rattle.paper.proofs.Ranges.{Ranged}
+use Rattle.paper.specs.Sound.{Ranged}
 
 -- a row: the net flows of a currency and a scenario, and their rates
 pub record BoundedRow (t : Totals) (c i : ℕ) : Type 0 where

@@ -10,8 +10,8 @@ use mir.Val.{toZ, ofZ}
 use Rattle.laws.specs.Integers.{up, down}
 use Rattle.laws.proofs.Fits.{back, sfits-abs}
 use Rattle.laws.proofs.Order.{ints, ltZ-true, not-below-zero}
-use Rattle.paper.specs.Factor.{lowStart, lowEnd, factor}
-use Rattle.paper.proofs.FactorClose.{InRange, factor-at-most}
+use Rattle.paper.specs.Factor.{lowStart, lowEnd, factor, InRange}
+use Rattle.paper.proofs.FactorClose.{factor-at-most}
 use Rattle.factor.proofs.Signs.{counted, factor-below, factor-above}
 use Rattle.factor.proofs.factor.Statement.{statement}
 use Rattle.factor.proofs.factor.Tie as tie

@@ -13,8 +13,8 @@ use Rattle.paper.specs.Records.{curve, currencies}
 use Rattle.paper.specs.Book.{placed}
 use Rattle.paper.specs.Decode.{decodeCurve}
 use Rattle.paper.proofs.Known.{known-of, placed-known}
-use Rattle.paper.proofs.Ranges.{Between}
-use Rattle.paper.proofs.Sound.{SoundCurve, Sound, curve-sound}
+use Rattle.paper.specs.Sound.{Between, SoundCurve, Sound}
+use Rattle.paper.proofs.Sound.{curve-sound}
 use Rattle.arrays.specs.Rooms.{curvedBy}
 use lib.IntN.{ℤ}
 use Rattle.curve.specs.Shocked.{curveOf, shockedSection}

@@ -7,9 +7,9 @@ use Rattle.paper.specs.declared.Refusal.the-variants.{CutShort}
 use Rattle.paper.specs.Refusals.{accepted}
 use Rattle.paper.specs.Records.{option, currencies, currencyOf, isCurve}
 use Rattle.paper.specs.Decode.{decodeOption}
-use Rattle.paper.proofs.Known.{known-of, Listed}
-use Rattle.paper.proofs.Ranges.{Between, Small}
-use Rattle.paper.proofs.Sound.{Sound, option-sound}
+use Rattle.paper.specs.Sound.{Listed, Between, Small, Sound}
+use Rattle.paper.proofs.Known.{known-of}
+use Rattle.paper.proofs.Sound.{option-sound}
 use Rattle.record.specs.Told.{optionRead}
 use Rattle.slotting.specs.Meant.{valuesOf}
 use Rattle.book.specs.Take.{bodyAt}

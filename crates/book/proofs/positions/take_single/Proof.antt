@@ -10,8 +10,8 @@ use Rattle.paper.specs.Refusals.{accepted, refused}
 use Rattle.paper.specs.Records.{flows, currencies, currencyOf, isCurve}
 use Rattle.paper.specs.Decode.{decodeSingle}
 use Rattle.paper.proofs.Known.{known-of}
-use Rattle.paper.proofs.Ranges.{Between}
-use Rattle.paper.proofs.Sound.{SoundFlows, Sound, single-sound}
+use Rattle.paper.specs.Sound.{Between, SoundFlows, Sound}
+use Rattle.paper.proofs.Sound.{single-sound}
 use Rattle.record.specs.Told.{singleRead}
 use Rattle.slotting.specs.Meant.{singleOf}
 use Rattle.book.specs.Take.{bodyAt}

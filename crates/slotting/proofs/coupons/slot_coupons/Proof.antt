@@ -6,7 +6,7 @@ use Rattle.laws.proofs.Lists.{tabulate-length}
 use Rattle.paper.specs.Ladder.{buckets}
 use Rattle.paper.specs.Flow.{couponsDue}
 use Rattle.paper.proofs.Magnitudes.{size-coupons}
-use Rattle.paper.proofs.Sound.{SoundFlows}
+use Rattle.paper.specs.Sound.{SoundFlows}
 use Rattle.posting.specs.Parts.{trillion}
 use Rattle.slotting.proofs.Rows.{row-small, row-slotted}
 use Rattle.slotting.proofs.Schedule.{scheduled, principal-row, coupons-small, scheduled-small, scheduled-flow, size-small}

@@ -5,7 +5,7 @@ use Rattle.laws.proofs.Lists.{tabulate-length}
 use Rattle.paper.specs.Ladder.{buckets}
 use Rattle.paper.specs.Behaviour.{depositFlow}
 use Rattle.paper.proofs.Magnitudes.{size-deposit}
-use Rattle.paper.proofs.Sound.{SoundFlows}
+use Rattle.paper.specs.Sound.{SoundFlows}
 use Rattle.record.specs.Told.{amountsFrom}
 use Rattle.posting.specs.Parts.{trillion}
 use Rattle.slotting.proofs.Entered.{amounts-few, amounts-small}

@@ -8,7 +8,7 @@ use Rattle.paper.specs.Ladder.{buckets}
 use Rattle.paper.specs.Behaviour.{prepaymentRate, loanFlow}
 use Rattle.paper.specs.Flow.{scenarios}
 use Rattle.paper.specs.Ledger.{sectionSize}
-use Rattle.paper.proofs.Sound.{SoundFlows}
+use Rattle.paper.specs.Sound.{SoundFlows}
 use Rattle.record.specs.Told.{amountsFrom}
 use Rattle.posting.specs.Parts.{trillion}
 use Rattle.slotting.proofs.Entered.{amounts-few}

@@ -1,5 +1,5 @@
 use native.Mathlib.Omega.{arith}
-use Rattle.paper.proofs.Sound.{SoundFlows}
+use Rattle.paper.specs.Sound.{SoundFlows}
 use Rattle.slotting.proofs.Entered.{single-slotted}
 use borrow.Author.Needs.{needs}
 use Rattle.slotting.proofs.single.slot_single.Statement.{statement}

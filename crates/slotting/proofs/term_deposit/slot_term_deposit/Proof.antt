@@ -7,7 +7,7 @@ use Rattle.paper.specs.Ladder.{buckets}
 use Rattle.paper.specs.Behaviour.{withdrawalRate, termDepositFlow}
 use Rattle.paper.specs.Ledger.{sectionSize}
 use Rattle.paper.proofs.Magnitudes.{size-term-deposit}
-use Rattle.paper.proofs.Sound.{SoundFlows}
+use Rattle.paper.specs.Sound.{SoundFlows}
 use Rattle.record.specs.Told.{amountsFrom}
 use Rattle.posting.specs.Parts.{trillion}
 use Rattle.posting.proofs.Loops.{replicate-all}

@@ -1,0 +1,71 @@
+-- What an accepted record is known to be: its fields lie in their ranges. Contracts ask it of what was decoded.
+use Prim.Native.Nat.{ℕ, _+_, _*_, _≤_, _<_}
+use mathlib.Core.Bool.{Bool, false}
+use mathlib.Core.List.{List}
+use mathlib.Core.Path.{_≡_}
+use lib.IntN.{ℤ, natAbs}
+use lib.ListN.{length, getD}
+use Rattle.laws.specs.Integers.{up, down}
+use Rattle.laws.specs.Sums.{sumOf}
+use Rattle.paper.specs.Scales.{billion}
+use Rattle.paper.specs.Ladder.{buckets, Term}
+use Rattle.paper.specs.Curve.{Curve, shockedRate}
+use Rattle.paper.specs.Records.{Flows, single, coupons, floating, deposit, loan, termDeposit, Record, flows, option, curve, currencies}
+use Rattle.paper.specs.TurnedDown.{interestAlone}
+
+-- ---- fields
+
+pub record Between (low high x : ℕ) : Type 0 where
+  pub from : low ≤ x
+  pub to : x ≤ high
+
+-- a count is some, and the last month is at most 600
+pub record Counted (period count : ℕ) : Type 0 where
+  pub some : 1 ≤ count
+  pub last : period * count ≤ 600
+
+pub record Small (z : ℤ) : Type 0 where
+  pub small : natAbs z ≤ billion
+
+-- -50,000 to 300,000
+pub record Ranged (z : ℤ) : Type 0 where
+  pub low : down z ≤ 50000
+  pub high : up z ≤ 300000
+
+-- a list of fields: so many, and each as its reader knows
+pub record Listed {A : Type 0} (P : A → Type 0) (n : ℕ) (xs : List A) : Type 0 where
+  pub long : length xs ≡ n
+  pub at : (d : A) (k : ℕ) → k < n → P (getD xs k d)
+
+-- ---- records, in the order of their fields
+
+abbrev pub Amounts : List ℕ → Type 0
+Amounts = Listed (Between 0 billion) buckets
+
+abbrev pub SoundTerm : Term → Type 0
+SoundTerm t = Between 0 600 (t .months) × Between 0 30 (t .days)
+
+unfoldable pub SoundFlows : Flows → Type 0
+SoundFlows (single side term amount) = Between 1 2 side × SoundTerm term × Between 0 billion amount
+SoundFlows (coupons side period count coupon principal) =
+    Between 1 2 side × Between 1 12 period × Counted period count × Between 0 billion coupon × Between 0 billion principal
+SoundFlows (floating side reset principal coupon) = Between 1 2 side × SoundTerm reset × Between 0 billion principal × Between 0 billion coupon
+SoundFlows (deposit category whole core) = Between 1 3 category × Between 0 billion whole × Amounts core × (sumOf core ≤ whole)
+SoundFlows (loan share principals interests) =
+    Between 0 10000 share × Amounts principals × Amounts interests × ((k : ℕ) → k < buckets → interestAlone principals interests k ≡ false)
+    × (sumOf principals + sumOf interests ≤ billion)
+SoundFlows (termDeposit share amounts) = Between 0 10000 share × Amounts amounts
+
+-- the currency had no curve; every rate is in range, in the base and in the six scenarios
+pub record SoundCurve (curved : ℕ → Bool) (c : ℕ) (z : Curve) : Type 0 where
+  pub fresh : curved c ≡ false
+  pub base : Listed Ranged buckets (z .rates)
+  pub parallel : Between 0 1000 (z .shocks .parallel)
+  pub short : Between 0 1000 (z .shocks .short)
+  pub long : Between 0 1000 (z .shocks .long)
+  pub shocked : (i k : ℕ) → i < 7 → k < buckets → Ranged (shockedRate z i k)
+
+unfoldable pub Sound : (ℕ → Bool) → Record → Type 0
+Sound curved (flows c f) = Between 1 currencies c × SoundFlows f
+Sound curved (option c side values) = Between 1 currencies c × Between 1 2 side × Listed Small 6 values
+Sound curved (curve c z) = Between 1 currencies c × SoundCurve curved c z
