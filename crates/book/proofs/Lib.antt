@@ -7,6 +7,7 @@ pub mod Returned
 pub mod Alike
 pub mod Room
 pub mod Stepping
+pub mod Dispatch
 pub mod Curving
 pub mod Walking
 -- what `assess` promises

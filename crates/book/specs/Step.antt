@@ -34,6 +34,10 @@ marked r m =
     if isCurve r then record { used = m .used; curved = withCurrency (m .curved) (currencyOf r) } else
     record { used = withCurrency (m .used) (currencyOf r); curved = m .curved }
 
+abbrev pub arraysAs : (ledger rates addOns : List ℤ) → (sizes optionSizes : List ℕ) → Arrays
+arraysAs ledger rates addOns sizes optionSizes =
+    record { ledger = ledger; rates = rates; addOns = addOns; sizes = sizes; optionSizes = optionSizes }
+
 -- a refused record changes nothing
 abbrev pub entered : Checked Record → Arrays → Arrays
 entered (accepted r) a = withRecord r a

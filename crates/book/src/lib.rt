@@ -3,5 +3,6 @@ pub mod assess;
 pub mod curves;
 pub mod masks;
 pub mod positions;
+pub mod records;
 pub mod rooms;
 pub mod step;
