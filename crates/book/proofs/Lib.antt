@@ -10,6 +10,7 @@ pub mod Stepping
 pub mod Dispatch
 pub mod Curving
 pub mod Walking
+pub mod Walks
 -- what `assess` promises
 pub mod Truth
 pub mod Unique

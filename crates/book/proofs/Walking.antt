@@ -36,9 +36,9 @@ pub record Walking (book : List ℕ) (a : Arrays) (at : ℕ) (m : Masks) : Type 
   pub masks : MasksOf m kept
   pub good : Good kept
 
-pub begun : (book : List ℕ) → Walking book (arraysOf []) 0 (record { used = 0; curved = 0 })
+pub begun : (book : List ℕ) (a : Arrays) → a ≡ arraysOf [] → Walking book a 0 (record { used = 0; curved = 0 })
 unfolding walk
-begun book = record { kept = []; fuel = length book; more = omega arith; same = refl; arrays = refl; masks = masks-none; good = good-none }
+begun book a e = record { kept = []; fuel = length book; more = omega arith; same = refl; arrays = e; masks = masks-none; good = good-none }
 
 -- ---- a turn of the paper's walk
 
@@ -54,7 +54,7 @@ over zero book at kept l = refl
 over (suc fuel) book at kept l = rw (le-leb (length book) at l)
 
 -- what an answer says of what was read
-on-read : (x : Checked Record) (next next' : ℕ) (m m' : Masks) → On next' m' ≡ stepped x next m → (r : Record) × (x ≡ accepted r) × (next' ≡ next) × (m' ≡ marked r m)
+pub on-read : (x : Checked Record) (next next' : ℕ) (m m' : Masks) → On next' m' ≡ stepped x next m → (r : Record) × (x ≡ accepted r) × (next' ≡ next) × (m' ≡ marked r m)
 on-read (accepted r) next next' m m' e = (r, refl, cc, cc)
 on-read (refused q place) next next' m m' e = let z : _≡_ {A = ℕ} 0 1 = cc in absurd (omega arith)
 

@@ -6,3 +6,4 @@ pub mod positions;
 pub mod records;
 pub mod rooms;
 pub mod step;
+pub mod walked;

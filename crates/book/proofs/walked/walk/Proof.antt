@@ -1,0 +1,96 @@
+-- `walk`: the records are taken one after the other; each goes on in `Walking`, and a refusal stops the paper's walk too.
+use Prim.Native.Nat.{_≤_, _<_, _-_}
+use mathlib.Core.Path.{_≡_, refl}
+use native.Mathlib.Omega.{arith}
+use borrow.Author.Needs.{needs}
+use lib.ListN.{length}
+use Rattle.book.specs.Step.{arraysAs}
+use Rattle.book.proofs.Walking.{Walking, begun, holds, goes-on}
+use Rattle.book.proofs.Walks.{walks-all, walks-stopped, forward}
+use Rattle.book.proofs.walked.walk.Statement.{statement}
+use Rattle.book.proofs.walked.walk.Tie as tie
+
+abbrev Inv-loop : tie.InvT-loop
+Inv-loop book ledger₀ rates₀ addons₀ sizes₀ options₀ at₀ m₀ ledger rates addons sizes options at m =
+    (length book ≤ 65528)
+    × (length ledger ≡ length ledger₀)
+    × (length rates ≡ length rates₀)
+    × (length addons ≡ length addons₀)
+    × (length sizes ≡ length sizes₀)
+    × (length options ≡ length options₀)
+    × Walking book (arraysAs ledger rates addons sizes options) at m
+
+abbrev μ-loop : tie.MeasureT-loop
+μ-loop book ledger₀ rates₀ addons₀ sizes₀ options₀ at₀ m₀ ledger rates addons sizes options at m = length book - at
+
+loop-holds : tie.Need-loop-holds Inv-loop μ-loop
+loop-holds c =
+    let start = c .before .before .before in
+    (start .pre .0, refl, refl, refl, refl, refl, begun _ _ (start .pre .1))
+
+step-requires : tie.Need-step-requires Inv-loop μ-loop
+step-requires c κs =
+    let inv = c .before .before .before .before .before .before .loop .inv in
+    ((omega arith, inv .0), holds _ _ _ _ (inv .6))
+
+enum-known-cause : tie.Need-enum-known-cause Inv-loop μ-loop
+enum-known-cause c = search needs
+
+same-length : tie.Need-same-length Inv-loop μ-loop
+same-length c = search needs
+
+same-length-2 : tie.Need-same-length-2 Inv-loop μ-loop
+same-length-2 c = search needs
+
+same-length-3 : tie.Need-same-length-3 Inv-loop μ-loop
+same-length-3 c = search needs
+
+same-length-4 : tie.Need-same-length-4 Inv-loop μ-loop
+same-length-4 c = search needs
+
+same-length-5 : tie.Need-same-length-5 Inv-loop μ-loop
+same-length-5 c = search needs
+
+returns : tie.Need-returns Inv-loop μ-loop
+returns c =
+    let at = c .before .before .before .before .before .before .before .before .before .before .before .before .before .before .before .before .before .loop in
+    walks-stopped _ _ (at .at) (at .m) (at .inv .6) (omega arith) _ _ (c .before .before .before .before .before .before .before .before .before .before .step .ensures) _ (c .before .cause .given .1)
+
+enum-known-next : tie.Need-enum-known-next Inv-loop μ-loop
+enum-known-next c = search needs
+
+loop-less : tie.Need-loop-less Inv-loop μ-loop
+loop-less c =
+    let at = c .before .before .before .before .before .before .before .before .before .before .before .before .before .before .before .before .before .loop in
+    let on = forward _ _ (at .at) (at .m) (at .inv .6) (omega arith) _ _ (c .before .before .before .before .before .before .before .before .before .before .step .ensures) _ _ (c .before .next .given .1) in
+    omega arith
+
+loop-again : tie.Need-loop-again Inv-loop μ-loop
+loop-again c =
+    let at = c .before .before .before .before .before .before .before .before .before .before .before .before .before .before .before .before .before .loop in
+    (at .inv .0, omega arith, omega arith, omega arith, omega arith, omega arith, goes-on _ _ (at .at) (at .m) (at .inv .6) (omega arith) _ _ (c .before .before .before .before .before .before .before .before .before .before .step .ensures) _ _ (c .before .next .given .1))
+
+same-length-6 : tie.Need-same-length-6 Inv-loop μ-loop
+same-length-6 c = search needs
+
+same-length-7 : tie.Need-same-length-7 Inv-loop μ-loop
+same-length-7 c = search needs
+
+same-length-8 : tie.Need-same-length-8 Inv-loop μ-loop
+same-length-8 c = search needs
+
+same-length-9 : tie.Need-same-length-9 Inv-loop μ-loop
+same-length-9 c = search needs
+
+same-length-10 : tie.Need-same-length-10 Inv-loop μ-loop
+same-length-10 c = search needs
+
+returns-2 : tie.Need-returns-2 Inv-loop μ-loop
+returns-2 c =
+    let at = c .before .loop in
+    walks-all _ _ (at .at) (at .m) (at .inv .6) (omega arith)
+
+pub walk-spec : {M : Type 1} → statement M
+walk-spec =
+    tie.close
+    (tie.spec Inv-loop μ-loop loop-holds step-requires enum-known-cause same-length same-length-2 same-length-3 same-length-4 same-length-5 returns enum-known-next loop-less loop-again same-length-6 same-length-7 same-length-8 same-length-9 same-length-10 returns-2)

@@ -1,0 +1,46 @@
+// The walk over the book: its records from the first byte on, until they end or one is refused.
+ghost use mathlib.Core.Path.{_≡_};
+ghost use mathlib.Core.List.{[]};
+ghost use Prim.Native.Nat.{_≤_};
+ghost use lib.ListN.{length};
+ghost use Rattle.arrays.specs.Kept.{arraysOf};
+ghost use Rattle.book.specs.Step.{arraysAs};
+ghost use Rattle.book.specs.Walked.{Walks};
+use crate::masks::Masks;
+use crate::records::step;
+use crate::step::Step;
+use paper::Refusal;
+
+// All records are kept, with the currencies that they use and curve; or one is refused at its first byte.
+pub enum Walked {
+    All(Masks),
+    Refused(Refusal, usize),
+}
+
+pub fn walk(
+    book: &[u8],
+    ledger: &mut [i64],
+    rates: &mut [i64],
+    addons: &mut [i64],
+    sizes: &mut [u64],
+    options: &mut [u64],
+) -> Walked
+    requires { ⌜ length (now book) ≤ 65528 ⌝ }
+    requires { ⌜ arraysAs (now ledger) (now rates) (now addons) (now sizes) (now options) ≡ arraysOf [] ⌝ }
+    ensures { λ r. ⌜ Walks (now (book .entry)) r (arraysAs (now (ledger .exit)) (now (rates .exit)) (now (addons .exit)) (now (sizes .exit)) (now (options .exit))) ⌝ }
+{
+    let mut at = 0;
+    let mut m = Masks { used: 0, curved: 0 };
+    while at < book.len() {
+        match step(book, at, m, ledger, rates, addons, sizes, options) {
+            Step::Refused(cause) => {
+                return Walked::Refused(cause, at);
+            }
+            Step::On(next, marks) => {
+                at = next;
+                m = marks;
+            }
+        }
+    }
+    Walked::All(m)
+}
