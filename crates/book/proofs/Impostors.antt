@@ -28,13 +28,13 @@ nilLedger = replicate 1064 (pos 0)
 reported : {book : List ℕ} {T : ℕ} {a : Assessed} {report' ledger' : List ℤ} (kept : List Record) → outcome book T 58 1064 ≡ accepted kept
     → Assesses book T nilReport nilLedger a report' ledger' → report' ≡ reportOf (totals kept) T
 unfolding reportAfter
-reported {T = T} kept e p = p .report-is ∙ ap (λ (o : Checked (List Record)). reportAfter o T nilReport) e ∙ append-nil (reportOf (totals kept) T)
+reported {T = T} kept e p = p .answers .report-is ∙ ap (λ (o : Checked (List Record)). reportAfter o T nilReport) e ∙ append-nil (reportOf (totals kept) T)
 
 -- one that refuses everything
 pub not-all-refused : {report' ledger' : List ℤ} (q : Refusal) (place : ℕ) → Assesses example.example 4214126 nilReport nilLedger (Refused q place) report' ledger' → ⊥
 unfolding told answerOf
 not-all-refused q place p =
-    let said = p .says ∙ ap answerOf (example.over-reported .accepts) in
+    let said = p .answers .says ∙ ap answerOf (example.over-reported .accepts) in
     let z : _≡_ {A = ℕ} 0 1 = cc in omega arith
 
 -- one that does not touch the report

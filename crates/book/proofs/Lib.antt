@@ -11,6 +11,8 @@ pub mod Dispatch
 pub mod Curving
 pub mod Walking
 pub mod Walks
+pub mod Causes
+pub mod Answering
 -- what `assess` promises
 pub mod Truth
 pub mod Unique

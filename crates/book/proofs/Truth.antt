@@ -42,7 +42,7 @@ unfolding reportAfter
 truthful {book} {T} {report} {ledger} {report'} p = record {
   holds = λ kept e.
       let t : Totals = totals kept in
-      let is : report' ≡ reportOf t T ++ drop figures report = p .report-is ∙ ap (λ (o : Checked (List Record)). reportAfter o T report) e in
+      let is : report' ≡ reportOf t T ++ drop figures report = p .answers .report-is ∙ ap (λ (o : Checked (List Record)). reportAfter o T report) e in
       same-figures
       (λ j l. ap (λ (r : List ℤ). figure r j) is ∙ List·getD-append (reportOf t T) (drop figures report) (pos 0) j (omega (arith, report-long t T)))
       (accepted-true book T (length report) (length ledger) kept e);

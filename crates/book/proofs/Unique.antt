@@ -29,7 +29,7 @@ pub record Same (a b : Assessed) (report report' ledger ledger' : List ℤ) : Ty
 pub one-outcome : {book : List ℕ} {T : ℕ} {report ledger : List ℤ} {a b : Assessed} {report₁ report₂ ledger₁ ledger₂ : List ℤ}
     → Assesses book T report ledger a report₁ ledger₁ → Assesses book T report ledger b report₂ ledger₂ → Same a b report₁ report₂ ledger₁ ledger₂
 one-outcome {a = a} {b = b} p q = record {
-  answers = one-answer a b (p .says ∙ sym (q .says));
-  reports = p .report-is ∙ sym (q .report-is);
-  ledgers = p .ledger-is ∙ sym (q .ledger-is);
+  answers = one-answer a b (p .answers .says ∙ sym (q .answers .says));
+  reports = p .answers .report-is ∙ sym (q .answers .report-is);
+  ledgers = p .answers .ledger-is ∙ sym (q .answers .ledger-is);
 }

@@ -4,10 +4,10 @@ use mathlib.Core.List.{List}
 use mathlib.Core.Path.{_≡_}
 use lib.IntN.{ℤ}
 use lib.ListN.{length}
-use Rattle.paper.specs.Refusals.{numberOf, Checked, accepted, refused}
+use Rattle.paper.specs.Refusals.{numberOf, Checked, accepted, refused, _>>=_}
 use Rattle.paper.specs.Records.{Record}
 use Rattle.paper.specs.Ledger.{totals}
-use Rattle.paper.specs.Book.{outcome, reportAfter, ledgerAfter}
+use Rattle.paper.specs.Book.{walk, covered, outcome, reportAfter, ledgerAfter}
 use Rattle.paper.specs.Demand3.{Demand3}
 use Rattle.book.specs.declared.assess.Assessed.{Assessed}
 use Rattle.book.specs.declared.assess.Assessed.the-variants.{Reported, Refused}
@@ -25,11 +25,19 @@ unfoldable pub answerOf : Checked (List Record) → Answer
 answerOf (accepted kept) = reported
 answerOf (refused r place) = turnedDown (numberOf r) place
 
+-- the answer to what a book comes to, and what it leaves in the rooms
+pub record Answers (o : Checked (List Record)) (T : ℕ) (report ledger : List ℤ) (answer : Assessed) (report' ledger' : List ℤ) : Type 0 where
+  pub says : told answer ≡ answerOf o
+  pub report-is : report' ≡ reportAfter o T report
+  pub ledger-is : ledger' ≡ ledgerAfter o ledger
+
 -- demands 1 and 2
 pub record Assesses (book : List ℕ) (T : ℕ) (report ledger : List ℤ) (answer : Assessed) (report' ledger' : List ℤ) : Type 0 where
-  pub says : told answer ≡ answerOf (outcome book T (length report) (length ledger))
-  pub report-is : report' ≡ reportAfter (outcome book T (length report) (length ledger)) T report
-  pub ledger-is : ledger' ≡ ledgerAfter (outcome book T (length report) (length ledger)) ledger
+  pub answers : Answers (outcome book T (length report) (length ledger)) T report ledger answer report' ledger'
+
+-- the part of the outcome that 16 to 18 leave to the records
+abbrev pub ofRecords : List ℕ → Checked (List Record)
+ofRecords book = walk book >>= covered
 
 -- demand 3: what is reported of an accepted book is true within its tolerances
 pub record Truthful (book : List ℕ) (T : ℕ) (report ledger report' : List ℤ) : Type 0 where

@@ -1,6 +1,6 @@
 // Nineteen amounts in a row, by bucket, read where they stand in the body.
-ghost use mathlib.Core.Path.{_≡_};
 ghost use Prim.Native.Nat.{_+_, _<_, _≤_};
+ghost use mathlib.Core.Path.{_≡_};
 ghost use lib.ListN.{length, getD};
 ghost use Rattle.laws.specs.Sums.{sumOf};
 ghost use Rattle.paper.specs.Scales.{billion};

@@ -1,6 +1,6 @@
 // The writers of a section: a scenario's nineteen cells start at 19 times the scenario.
-ghost use mathlib.Core.Path.{_≡_};
 ghost use Prim.Native.Nat.{_%_, _<_, _≤_};
+ghost use mathlib.Core.Path.{_≡_};
 ghost use lib.ListN.{length, getD, set};
 ghost use lib.IntN.{pos, natAbs, _+ℤ_};
 ghost use mir.Syntax.{w64};

@@ -22,11 +22,10 @@ use Rattle.paper.proofs.Magnitudes.{size-single, size-floating}
 use Rattle.arrays.specs.Slots.{plus, plusℤ, withFlows, withSizes, withAddOns, withOptionSizes, roomFor, onlyIf}
 use Rattle.record.specs.Told.{amountsFrom}
 use Rattle.posting.specs.declared.Slotted.{Slotted}
-use Rattle.posting.specs.Parts.{AtMost, FlowParts, answerOf}
-use Rattle.slotting.specs.Parts.{FlowsSlotted, optionMagnitude, OptionSlotted}
-use Rattle.posting.specs.Parts.{Admitted, Entered, column}
+use Rattle.posting.specs.Parts.{AtMost, FlowParts, answerOf, Admitted, Entered, column}
 use Rattle.posting.proofs.Limit.{room-ext, room-is, sums-are}
 use Rattle.posting.proofs.Sides.{sided-nil}
+use Rattle.slotting.specs.Parts.{FlowsSlotted, optionMagnitude, OptionSlotted}
 
 -- ---- an option, by the answer b of the test
 

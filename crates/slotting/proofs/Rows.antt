@@ -4,9 +4,9 @@ use mathlib.Core.Bool.{true}
 use mathlib.Core.List.{List}
 use mathlib.Core.Path.{_≡_, sym, ap, ap₂, subst, _∙_}
 use native.Mathlib.Omega.{arith}
-use borrow.Author.Tests.{leb-true}
 use lib.IntN.{ℤ, pos}
 use lib.ListN.{length, getD}
+use borrow.Author.Tests.{leb-true}
 use Rattle.laws.specs.Tests.{_upTo_, all}
 use Rattle.laws.specs.Lists.{tabulate, splice}
 use Rattle.laws.proofs.Tests.{all-at}
@@ -17,11 +17,10 @@ use Rattle.paper.specs.Records.{Record}
 use Rattle.paper.specs.Flow.{scenarios, sided, flow, magnitude}
 use Rattle.paper.specs.Ledger.{sectionSize}
 use Rattle.posting.specs.declared.Slotted.{Slotted}
-use Rattle.posting.specs.Parts.{AtMost, FlowParts}
-use Rattle.slotting.specs.Parts.{FlowsSlotted}
-use Rattle.posting.specs.Parts.{Entered}
-use Rattle.slotting.proofs.Entered.{entered-slotted}
+use Rattle.posting.specs.Parts.{AtMost, FlowParts, Entered}
 use Rattle.posting.proofs.Loops.{Filled, filled-none, filled-part, tabulate-all}
+use Rattle.slotting.specs.Parts.{FlowsSlotted}
+use Rattle.slotting.proofs.Entered.{entered-slotted}
 
 -- by the place in a section
 abbrev pub byPlace : (ℕ → ℕ → ℕ) → ℕ → ℕ
@@ -57,6 +56,9 @@ pub rows-done : {row : ℕ → ℕ → ℕ} {l : List ℕ} {i : ℕ} → 7 ≤ i
 rows-done {row} {l} {i} w h = tabulate-is 0 l (byPlace row) sectionSize (h .long) (λ j o. h .filled j (omega arith))
 
 -- ---- a row, or a row for each scenario, once filled: its bound, and whose flows it is
+
+pub row-long : (f : ℕ → ℕ) (n : ℕ) {l : List ℕ} → l ≡ tabulate f n → length l ≡ n
+row-long f n e = ap length e ∙ tabulate-length f n
 
 pub row-small : (f : ℕ → ℕ) (n b : ℕ) {l : List ℕ} → l ≡ tabulate f n → ((k : ℕ) → k < n → f k ≤ b) → AtMost b l
 row-small f n b e h = subst (AtMost b) (sym e) (tabulate-all (λ x. x ≤ b) f n h (omega arith))

@@ -16,12 +16,12 @@ use Rattle.laws.specs.Lists.{tabulate}
 use Rattle.laws.proofs.Lists.{tabulate-length, tabulate-at, tabulate-ext}
 use Rattle.laws.proofs.Sums.{sum-ext, sum-upto}
 use Rattle.laws.proofs.Tests.{and-true, all-at, lt-or-ge}
-use Rattle.paper.specs.Scales.{billion}
 use Rattle.paper.specs.Ladder.{buckets, Term, inMonths, notAfter, upperEnds, bucketOf}
 use Rattle.paper.specs.Records.{coupons, flows}
 use Rattle.paper.specs.Flow.{sided, due, couponsDue, flowOf, flow}
 use Rattle.paper.proofs.Buckets.{in-bucket}
 use Rattle.paper.proofs.Magnitudes.{due-once, coupons-add-up}
+use Rattle.paper.specs.Sound.{SoundFlows}
 use Rattle.posting.specs.Parts.{trillion}
 use Rattle.posting.proofs.Loops.{raised}
 
@@ -156,8 +156,8 @@ module _ (period count coupon : ℕ) where
   scheduled-flow c side principal i k = refl
 
 -- at most 600 coupons, so their sum fits
-pub size-small : (period count coupon principal : ℕ) → 1 ≤ period → period * count ≤ 600 → coupon ≤ billion → principal ≤ billion
-    → count * coupon + principal ≤ trillion
-size-small period count coupon principal some last small whole =
-    let few : count ≤ 600 = omega (arith, mul-le-mul-right count some) in
-    omega (arith, mul-le-mul few small)
+pub size-small : (side period count coupon principal : ℕ) → SoundFlows (coupons side period count coupon principal) → count * coupon + principal ≤ trillion
+unfolding SoundFlows
+size-small side period count coupon principal h =
+    let few : count ≤ 600 = omega (arith, mul-le-mul-right count (h .1 .from), h .2 .last) in
+    omega (arith, mul-le-mul few (h .3 .to), h .4 .to)

@@ -1,16 +1,16 @@
 // Kind 2: a coupon at each period's end, the principal with the last; the same in every scenario. How many coupons are due by the end of a
 // bucket is a division, so there is no pass over the coupons.
+ghost use Prim.Native.Nat.{_+_, _*_, _/_, _≤_, min};
 ghost use mathlib.Core.Path.{_≡_};
-ghost use Prim.Native.Nat.{_*_, _/_, _≤_, min};
 ghost use lib.ListN.{length};
 ghost use Rattle.laws.specs.Lists.{tabulate};
 ghost use Rattle.paper.specs.Scales.{billion};
-ghost use Rattle.paper.specs.Ladder.{buckets};
+ghost use Rattle.paper.specs.Ladder.{buckets, inMonths};
 ghost use Rattle.paper.specs.Records.{flows};
-ghost use Rattle.paper.specs.Flow.{couponsDue};
+ghost use Rattle.paper.specs.Flow.{due, couponsDue};
 ghost use Rattle.paper.specs.Sound.{SoundFlows};
-ghost use Rattle.slotting.specs.Meant.{couponsOf};
 ghost use Rattle.posting.specs.Parts.{FlowParts};
+ghost use Rattle.slotting.specs.Meant.{couponsOf};
 ghost use Rattle.slotting.specs.Parts.{FlowsSlotted};
 use ladder::bucket_of;
 use posting::Slotted;
@@ -51,9 +51,9 @@ fn due_by(end: u32, period: u32, count: u32) -> u32
     periods
 }
 
-fn coupon_row(period: u32, count: u32, coupon: u32, row: &mut [u64])
+fn coupon_row(period: u32, count: u32, coupon: u32, principal: u32, row: &mut [u64])
     requires { ⌜ (1 ≤ period) × (period * count ≤ 600) × (coupon ≤ billion) × (length (now row) ≡ buckets) ⌝ }
-    ensures { λ _. ⌜ now (row .exit) ≡ tabulate (couponsDue period count coupon) buckets ⌝ }
+    ensures { λ _. ⌜ now (row .exit) ≡ tabulate (λ k. couponsDue period count coupon k + due (inMonths (period * count)) principal k) buckets ⌝ }
 {
     let ends = MONTH_ENDS;
     let mut before: u32 = 0;
@@ -64,6 +64,8 @@ fn coupon_row(period: u32, count: u32, coupon: u32, row: &mut [u64])
         before = by;
         k += 1;
     }
+    let last = bucket_of(period * count, 0) - 1;
+    row[last] += principal as u64;
 }
 
 pub fn slot_coupons(s: Coupons, section: &mut [i64], sizes: &mut [u64]) -> Slotted
@@ -71,11 +73,8 @@ pub fn slot_coupons(s: Coupons, section: &mut [i64], sizes: &mut [u64]) -> Slott
     requires { ⌜ FlowParts (now section) (now sizes) ⌝ }
     ensures { λ r. ⌜ FlowsSlotted (flows (s .currency) (couponsOf s)) (now (section .entry)) (now (sizes .entry)) r (now (section .exit)) (now (sizes .exit)) ⌝ }
 {
-    let principal = s.principal as u64;
+    let size = (s.count as u64) * (s.coupon as u64) + s.principal as u64;
     let mut row = [0u64; 19];
-    coupon_row(s.period, s.count, s.coupon, &mut row);
-    let last = bucket_of(s.period * s.count, 0) - 1;
-    row[last] += principal;
-    let size = (s.count as u64) * (s.coupon as u64) + principal;
+    coupon_row(s.period, s.count, s.coupon, s.principal, &mut row);
     enter_row(&row, s.side, size, section, sizes)
 }

@@ -1,6 +1,6 @@
 // Kind 4, a liability: each core amount in its bucket, and total less core in bucket 1; the same in every scenario.
-ghost use mathlib.Core.Path.{_≡_};
 ghost use Prim.Native.Nat.{_≤_};
+ghost use mathlib.Core.Path.{_≡_};
 ghost use lib.ListN.{length};
 ghost use Rattle.laws.specs.Sums.{sumOf};
 ghost use Rattle.laws.specs.Lists.{tabulate};
@@ -10,8 +10,8 @@ ghost use Rattle.paper.specs.Records.{flows};
 ghost use Rattle.paper.specs.Behaviour.{depositFlow};
 ghost use Rattle.paper.specs.Sound.{SoundFlows};
 ghost use Rattle.record.specs.Told.{amountsFrom};
-ghost use Rattle.slotting.specs.Meant.{depositOf};
 ghost use Rattle.posting.specs.Parts.{AtMost, FlowParts};
+ghost use Rattle.slotting.specs.Meant.{depositOf};
 ghost use Rattle.slotting.specs.Parts.{FlowsSlotted};
 use posting::Slotted;
 use posting::amounts::amount_of;

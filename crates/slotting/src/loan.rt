@@ -1,7 +1,7 @@
 // Kind 5, an asset: in each bucket what is paid, prepaid and due as interest; the balance is carried from bucket to bucket.
+ghost use Prim.Native.Nat.{_+_, _-_, _/_, _%_, _≤_};
 ghost use mathlib.Core.Bool.{false, _&&_};
 ghost use mathlib.Core.Path.{_≡_};
-ghost use Prim.Native.Nat.{_+_, _-_, _/_, _%_, _≤_};
 ghost use lib.ListN.{length};
 ghost use Rattle.laws.specs.Tests.{_is_, _below_};
 ghost use Rattle.laws.specs.Sums.{sum, sumOf};
@@ -14,10 +14,9 @@ ghost use Rattle.paper.specs.Flow.{scenarios};
 ghost use Rattle.paper.specs.Ledger.{sectionSize};
 ghost use Rattle.paper.specs.Sound.{SoundFlows};
 ghost use Rattle.record.specs.Told.{amountsFrom};
-ghost use Rattle.slotting.specs.Meant.{loanOf};
 ghost use Rattle.posting.specs.Parts.{FlowParts};
-ghost use Rattle.slotting.specs.Parts.{FlowsSlotted};
-ghost use Rattle.slotting.specs.Parts.{SoundSchedule};
+ghost use Rattle.slotting.specs.Meant.{loanOf};
+ghost use Rattle.slotting.specs.Parts.{FlowsSlotted, SoundSchedule};
 use posting::Slotted;
 use posting::amounts::amount_of;
 use posting::amounts::sum_from;

@@ -1,16 +1,16 @@
 // Kind 7: sold values add to the currency's add-ons, bought ones subtract. They make no flow; 14 has sums of their own for them.
-ghost use mathlib.Core.Path.{_≡_};
 ghost use Prim.Native.Nat.{_≤_};
+ghost use mathlib.Core.Path.{_≡_};
 ghost use lib.IntN.{pos, natAbs};
 ghost use lib.ListN.{length, getD};
+ghost use Rattle.laws.specs.Lists.{tabulate};
 ghost use Rattle.paper.specs.Scales.{billion};
 ghost use Rattle.paper.specs.Records.{option};
 ghost use Rattle.paper.specs.Flow.{sided};
 ghost use Rattle.paper.specs.Sound.{Listed, Small};
-ghost use Rattle.laws.specs.Lists.{tabulate};
 ghost use Rattle.arrays.specs.Slots.{plusℤ};
-ghost use Rattle.slotting.specs.Meant.{valuesOf};
 ghost use Rattle.posting.specs.Parts.{AtMostℤ};
+ghost use Rattle.slotting.specs.Meant.{valuesOf};
 ghost use Rattle.slotting.specs.Parts.{OptionParts, OptionSlotted};
 use ladder::Thousands;
 use posting::Slotted;

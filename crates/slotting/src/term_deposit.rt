@@ -1,6 +1,6 @@
 // Kind 6, a liability: from each bucket's amount the part at the scenario's rate, rounded down, moves to bucket 1; the rest stays.
-ghost use mathlib.Core.Path.{_≡_};
 ghost use Prim.Native.Nat.{_/_, _%_, _<_, _≤_};
+ghost use mathlib.Core.Path.{_≡_};
 ghost use lib.ListN.{length};
 ghost use Rattle.laws.specs.Lists.{tabulate};
 ghost use Rattle.paper.specs.Scales.{billion};
@@ -10,8 +10,8 @@ ghost use Rattle.paper.specs.Behaviour.{wholeRate, moved, withdrawalRate, termD
 ghost use Rattle.paper.specs.Ledger.{sectionSize};
 ghost use Rattle.paper.specs.Sound.{SoundFlows};
 ghost use Rattle.record.specs.Told.{amountsFrom};
-ghost use Rattle.slotting.specs.Meant.{termDepositOf};
 ghost use Rattle.posting.specs.Parts.{AtMost, FlowParts};
+ghost use Rattle.slotting.specs.Meant.{termDepositOf};
 ghost use Rattle.slotting.specs.Parts.{FlowsSlotted};
 use posting::Slotted;
 use posting::amounts::amount_of;

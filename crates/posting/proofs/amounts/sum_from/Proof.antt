@@ -3,12 +3,12 @@ use mathlib.Core.Path.{_≡_, refl, sym, ap₂, _∙_}
 use native.Mathlib.Nat.{le-refl}
 use native.Mathlib.Omega.{arith}
 use lib.ListN.{getD}
+use borrow.Author.Needs.{needs}
 use Rattle.laws.specs.Sums.{sum}
 use Rattle.laws.proofs.Lists.{tabulate-length}
 use Rattle.laws.proofs.Sums.{sum-more}
 use Rattle.laws.proofs.Totals.{sum-getD}
 use Rattle.record.specs.Told.{amountsFrom}
-use borrow.Author.Needs.{needs}
 use Rattle.posting.proofs.amounts.sum_from.Statement.{statement}
 use Rattle.posting.proofs.amounts.sum_from.Tie as tie
 

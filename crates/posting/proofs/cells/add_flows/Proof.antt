@@ -3,10 +3,10 @@ use Prim.Native.Nat.{_+_, _-_, _≤_}
 use mathlib.Core.Path.{_≡_}
 use lib.IntN.{pos, _+ℤ_, +ℤ-idr}
 use lib.ListN.{length, getD}
+use borrow.Author.Needs.{needs}
 use Rattle.paper.specs.Flow.{sided}
 use Rattle.posting.proofs.Loops.{Joining, joining-none, joining-rest, joining-next, joining-done}
 use Rattle.posting.proofs.Sides.{abs-sided, sum-fits}
-use borrow.Author.Needs.{needs}
 use Rattle.posting.proofs.cells.add_flows.Statement.{statement}
 use Rattle.posting.proofs.cells.add_flows.Tie as tie
 

@@ -4,12 +4,12 @@ use mathlib.Core.Path.{_≡_, sym, ap, _∙_}
 use native.Mathlib.Omega.{arith}
 use lib.IntN.{pos, natAbs, _+ℤ_, +ℤ-idr}
 use lib.ListN.{length, getD}
+use borrow.Author.Needs.{needs}
 use Rattle.laws.proofs.Sections.{length-section}
 use Rattle.paper.specs.Ladder.{buckets}
 use Rattle.paper.specs.Flow.{sided}
 use Rattle.posting.specs.Parts.{trillion}
 use Rattle.posting.proofs.Loops.{Joining, joining-none, joining-long, part-all, joining-part, joining-done}
-use borrow.Author.Needs.{needs}
 use Rattle.posting.proofs.cells.add_row.Statement.{statement}
 use Rattle.posting.proofs.cells.add_row.Tie as tie
 

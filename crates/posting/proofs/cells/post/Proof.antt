@@ -4,10 +4,10 @@ use mathlib.Core.Path.{_≡_, sym}
 use native.Mathlib.Omega.{arith}
 use lib.IntN.{pos, _+ℤ_, +ℤ-idr}
 use lib.ListN.{length, getD}
+use borrow.Author.Needs.{needs}
 use Rattle.posting.specs.Parts.{column}
 use Rattle.posting.proofs.Loops.{Joining, joining-none, joining-rest, joining-more, joining-done}
 use Rattle.posting.proofs.Sides.{sum-fits, column-here, column-elsewhere}
-use borrow.Author.Needs.{needs}
 use Rattle.posting.proofs.cells.post.Statement.{statement}
 use Rattle.posting.proofs.cells.post.Tie as tie
 

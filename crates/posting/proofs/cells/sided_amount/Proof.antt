@@ -2,8 +2,8 @@ use mathlib.Core.Path.{ap, _∙_}
 use native.Mathlib.Omega.{arith}
 use mir.Facts.{toZ-pos}
 use mir.Syntax.{w64}
-use Rattle.paper.specs.Flow.{sided}
 use borrow.Author.Needs.{needs}
+use Rattle.paper.specs.Flow.{sided}
 use Rattle.posting.proofs.cells.sided_amount.Statement.{statement}
 use Rattle.posting.proofs.cells.sided_amount.Tie as tie
 

@@ -1,8 +1,8 @@
 use mathlib.Core.Bool.{true, false}
 use mathlib.Core.Path.{refl, sym, _∙_}
 use native.Mathlib.Omega.{arith}
-use Rattle.posting.proofs.Limit.{entered}
 use borrow.Author.Needs.{needs}
+use Rattle.posting.proofs.Limit.{entered}
 use Rattle.posting.proofs.flows.enter.Statement.{statement}
 use Rattle.posting.proofs.flows.enter.Tie as tie
 

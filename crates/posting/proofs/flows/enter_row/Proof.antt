@@ -2,10 +2,10 @@ use Prim.Native.Nat.{_≤_}
 use mathlib.Core.Bool.{true, false}
 use mathlib.Core.Path.{refl, sym}
 use native.Mathlib.Omega.{arith}
+use borrow.Author.Needs.{needs}
 use Rattle.posting.specs.Parts.{trillion}
 use Rattle.posting.proofs.Loops.{replicate-all}
 use Rattle.posting.proofs.Limit.{entered, same-size}
-use borrow.Author.Needs.{needs}
 use Rattle.posting.proofs.flows.enter_row.Statement.{statement}
 use Rattle.posting.proofs.flows.enter_row.Tie as tie
 

@@ -1,6 +1,6 @@
 use mathlib.Core.Path.{sym, _∙_}
-use Rattle.posting.proofs.Limit.{admitted, not-admitted}
 use borrow.Author.Needs.{needs}
+use Rattle.posting.proofs.Limit.{admitted, not-admitted}
 use Rattle.posting.proofs.room.admits.Statement.{statement}
 use Rattle.posting.proofs.room.admits.Tie as tie
 

@@ -4,8 +4,8 @@ use mathlib.Core.Path.{_≡_, refl}
 use native.Mathlib.Nat.{add-zero}
 use native.Mathlib.Omega.{arith}
 use lib.ListN.{length, getD}
-use Rattle.posting.proofs.Loops.{Joining, joining-none, joining-rest, joining-next, joining-done}
 use borrow.Author.Needs.{needs}
+use Rattle.posting.proofs.Loops.{Joining, joining-none, joining-rest, joining-next, joining-done}
 use Rattle.posting.proofs.room.grow.Statement.{statement}
 use Rattle.posting.proofs.room.grow.Tie as tie
 

@@ -2,11 +2,11 @@
 use Prim.Native.Nat.{ℕ, _+_, _-_, _≤_, _<_}
 use mathlib.Core.Path.{sym}
 use native.Mathlib.Omega.{arith}
-use borrow.Author.Count.{below-more}
 use lib.ListN.{length, getD}
+use borrow.Author.Count.{below-more}
+use borrow.Author.Needs.{needs}
 use Rattle.paper.specs.Scales.{billion}
 use Rattle.posting.proofs.Limit.{room-of, room-not}
-use borrow.Author.Needs.{needs}
 use Rattle.posting.proofs.room.has_room.Statement.{statement}
 use Rattle.posting.proofs.room.has_room.Tie as tie
 

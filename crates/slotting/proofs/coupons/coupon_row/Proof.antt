@@ -4,22 +4,25 @@ use mathlib.Core.Path.{_≡_, sym, ap, ap₂, _∙_}
 use native.Mathlib.Nat.{zero-div, mul-le-mul, mul-le-mul-right}
 use native.Mathlib.Numerals.{add-one}
 use native.Mathlib.Omega.{arith}
-use lib.ListN.{length}
+use lib.ListN.{length, length-set}
+use borrow.Author.Needs.{needs}
 use Rattle.laws.proofs.Lists.{tabulate-is}
 use Rattle.paper.specs.Ladder.{buckets}
 use Rattle.paper.specs.Flow.{couponsDue}
 use Rattle.posting.proofs.Loops.{Filled, filled-none, filled-next}
-use Rattle.slotting.proofs.Schedule.{monthEnds, start, coupons-in, between-ordered}
-use borrow.Author.Needs.{needs}
+use Rattle.slotting.proofs.Schedule.{monthEnds, start, coupons-in, between-ordered, principal-row, coupons-small}
 use Rattle.slotting.proofs.coupons.coupon_row.Statement.{statement}
 use Rattle.slotting.proofs.coupons.coupon_row.Tie as tie
 
 abbrev Inv-loop : tie.InvT-loop
-Inv-loop period count coupon row₀ ends before₀ k₀ row before k =
+Inv-loop period count coupon principal row₀ ends before₀ k₀ row before k =
     (k ≤ 19) × (length row ≡ 19) × Filled 0 k (couponsDue period count coupon) row × (before ≡ min count (start k / period))
 
 abbrev μ-loop : tie.MeasureT-loop
-μ-loop period count coupon row₀ ends before₀ k₀ row before k = 19 - k
+μ-loop period count coupon principal row₀ ends before₀ k₀ row before k = 19 - k
+
+few-coupons : (s : tie.Start Inv-loop μ-loop) → s .args .count ≤ 600
+few-coupons s = omega (arith, mul-le-mul-right (s .args .count) (s .pre .0), s .pre .1)
 
 none-due : (count period : ℕ) → 0 ≡ min count (0 / period)
 none-due count period = omega (arith, zero-div period)
@@ -51,7 +54,7 @@ mul-row : tie.Need-mul-row Inv-loop μ-loop
 mul-row c =
     let s = c .before .before .before .before in
     let few : c .due-by .result - c .before .before .loop .before ≤ 600 =
-    omega (arith, c .due-by .ensures, mul-le-mul-right (s .args .count) (s .pre .0), s .pre .1) in
+    omega (arith, c .due-by .ensures, few-coupons s) in
     record { fits = omega (arith, mul-le-mul few (s .pre .2)) }
 
 mul-row-2 : tie.Need-mul-row-2 Inv-loop μ-loop
@@ -80,13 +83,42 @@ loop-again c =
       now ∙ ap (λ (k : ℕ). min (s .args .count) (start k / s .args .period)) (sym (add-one (at .k))),
     )
 
+mul-bucket-of : tie.Need-mul-bucket-of Inv-loop μ-loop
+mul-bucket-of c = record { fits = omega (arith, c .before .before .before .pre .1) }
+
+bucket-of-requires : tie.Need-bucket-of-requires Inv-loop μ-loop
+bucket-of-requires c κs = search needs
+
+sub-last : tie.Need-sub-last Inv-loop μ-loop
+sub-last c = search needs
+
+mul-row-3 : tie.Need-mul-row-3 Inv-loop μ-loop
+mul-row-3 c = search needs
+
+slice-read-row : tie.Need-slice-read-row Inv-loop μ-loop
+slice-read-row c = search needs
+
+add-row : tie.Need-add-row Inv-loop μ-loop
+add-row c =
+    let s = c .before .before .before .before .before in
+    let last = c .before .bucket-of .result - 1 in
+    let here = c .before .before .before .loop .inv .2 last (omega arith) in
+    let small = coupons-small (s .args .period) (s .args .count) (s .args .coupon) last (omega arith) in
+    record { fits = omega (arith, here, small, mul-le-mul (few-coupons s) (s .pre .2), s .fits .principal) }
+
+slice-write-row-2 : tie.Need-slice-write-row-2 Inv-loop μ-loop
+slice-write-row-2 c = search needs
+
 same-length : tie.Need-same-length Inv-loop μ-loop
-same-length c = search needs
+same-length c =
+    length-set (c .before .before .before .loop .row) (c .before .bucket-of .result - 1) _ ∙ c .before .before .before .loop .inv .1 ∙ sym (c .before .before .before .before .before .pre .3)
 
 returns : tie.Need-returns Inv-loop μ-loop
 returns c =
-    let at = c .before .loop in
-    tabulate-is 0 (at .row) _ buckets (at .inv .1) (λ k l. at .inv .2 k (omega arith))
+    let s = c .before .before .before .before .before in
+    let at = c .before .before .before .loop in
+    let filled = tabulate-is 0 (at .row) (couponsDue (s .args .period) (s .args .count) (s .args .coupon)) buckets (at .inv .1) (λ k l. at .inv .2 k (omega arith)) in
+    principal-row _ (at .row) _ (c .before .bucket-of .result) (s .args .principal) filled (c .before .bucket-of .ensures .0)
 
 pub coupon-row-spec : {M : Type 1} → statement M
 coupon-row-spec =
@@ -106,5 +138,12 @@ coupon-row-spec =
     add-k
     loop-less
     loop-again
+    mul-bucket-of
+    bucket-of-requires
+    sub-last
+    mul-row-3
+    slice-read-row
+    add-row
+    slice-write-row-2
     same-length
     returns)

@@ -1,7 +1,6 @@
-use mathlib.Core.Path.{refl, ap, _∙_}
+use mathlib.Core.Path.{refl}
 use native.Mathlib.Omega.{arith}
-use lib.ListN.{length}
-use Rattle.laws.proofs.Lists.{tabulate-length}
+use borrow.Author.Needs.{needs}
 use Rattle.paper.specs.Ladder.{buckets}
 use Rattle.paper.specs.Behaviour.{depositFlow}
 use Rattle.paper.proofs.Magnitudes.{size-deposit}
@@ -9,9 +8,8 @@ use Rattle.paper.specs.Sound.{SoundFlows}
 use Rattle.record.specs.Told.{amountsFrom}
 use Rattle.posting.specs.Parts.{trillion}
 use Rattle.slotting.proofs.Entered.{amounts-few, amounts-small}
-use Rattle.slotting.proofs.Rows.{row-small, row-slotted}
+use Rattle.slotting.proofs.Rows.{row-long, row-small, row-slotted}
 use Rattle.slotting.proofs.Deposited.{core-small, core-flow}
-use borrow.Author.Needs.{needs}
 use Rattle.slotting.proofs.deposit.slot_deposit.Statement.{statement}
 use Rattle.slotting.proofs.deposit.slot_deposit.Tie as tie
 
@@ -39,7 +37,7 @@ enter-row-requires c κs =
     let filled = c .before .before .before .before .core-row .ensures in
     let few = amounts-few (s .args .body .now) 6 in (
       (
-        ap length filled ∙ tabulate-length _ buckets,
+        row-long (depositFlow whole core) buckets filled,
         row-small (depositFlow whole core) buckets trillion filled (λ k l. omega (arith, core-small whole core few (s .pre .0 .1 .3) k l, s .pre .0 .1 .1 .to)),
         omega (arith, s .pre .0 .1 .1 .to),
       ),

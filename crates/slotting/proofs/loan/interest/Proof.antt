@@ -1,9 +1,9 @@
 use native.Mathlib.Nat.{mul-le-mul, mul-le-mul-left, div-le-of-le-mul}
 use native.Mathlib.Omega.{arith}
 use borrow.Author.Tests.{eq-eqb, ne-eqb}
+use borrow.Author.Needs.{needs}
 use Rattle.paper.specs.Behaviour.{interest}
 use Rattle.slotting.proofs.Prepayment.{not-alone}
-use borrow.Author.Needs.{needs}
 use Rattle.slotting.proofs.loan.interest.Statement.{statement}
 use Rattle.slotting.proofs.loan.interest.Tie as tie
 

@@ -3,6 +3,7 @@ use Prim.Native.Nat.{ℕ, _+_, _*_, _-_, _≤_}
 use mathlib.Core.Path.{_≡_, refl, sym, ap, _∙_}
 use native.Mathlib.Omega.{arith}
 use lib.ListN.{length}
+use borrow.Author.Needs.{needs}
 use Rattle.laws.specs.Tests.{all}
 use Rattle.laws.specs.Sums.{sum}
 use Rattle.laws.specs.Lists.{tabulate}
@@ -15,7 +16,6 @@ use Rattle.paper.proofs.Deposits.{rate-at-most}
 use Rattle.record.specs.Told.{amountsFrom}
 use Rattle.posting.proofs.Loops.{Filled, filled-none, filled-next}
 use Rattle.slotting.proofs.Rows.{Rows, rows-none, rows-next, rows-done, multiplier-small}
-use borrow.Author.Needs.{needs}
 use Rattle.slotting.proofs.loan.loan_flows.Statement.{statement}
 use Rattle.slotting.proofs.loan.loan_flows.Tie as tie
 

@@ -4,16 +4,16 @@ use mathlib.Core.Path.{_≡_, refl, sym, ap₂, _∙_}
 use native.Mathlib.Numerals.{add-one}
 use native.Mathlib.Omega.{arith}
 use lib.ListN.{length}
+use borrow.Author.Needs.{needs}
 use Rattle.laws.specs.Sums.{sum}
 use Rattle.laws.proofs.Lists.{tabulate-is}
 use Rattle.laws.proofs.Sums.{sum-more}
 use Rattle.paper.specs.Ladder.{buckets}
 use Rattle.paper.specs.Behaviour.{outstandingAt, scheduledAt, loanFlow}
 use Rattle.record.specs.Told.{amountsFrom}
-use Rattle.slotting.proofs.Entered.{amounts-few}
 use Rattle.posting.proofs.Loops.{Filled, filled-none, filled-next}
+use Rattle.slotting.proofs.Entered.{amounts-few}
 use Rattle.slotting.proofs.Prepayment.{Before, flow-is, left-is, rest-is, balance-within, none-alone-here, loan-sum}
-use borrow.Author.Needs.{needs}
 use Rattle.slotting.proofs.loan.loan_row.Statement.{statement}
 use Rattle.slotting.proofs.loan.loan_row.Tie as tie
 

@@ -1,7 +1,7 @@
 use native.Mathlib.Nat.{mul-le-mul}
 use native.Mathlib.Omega.{arith}
-use Rattle.paper.specs.Behaviour.{prepaid}
 use borrow.Author.Needs.{needs}
+use Rattle.paper.specs.Behaviour.{prepaid}
 use Rattle.slotting.proofs.loan.prepaid.Statement.{statement}
 use Rattle.slotting.proofs.loan.prepaid.Tie as tie
 

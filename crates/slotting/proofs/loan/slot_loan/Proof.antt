@@ -1,9 +1,8 @@
 use Prim.Native.Nat.{ℕ, _/_, _%_}
-use mathlib.Core.Path.{refl, ap, _∙_}
+use mathlib.Core.Path.{refl, _∙_}
 use native.Mathlib.Omega.{arith}
-use lib.ListN.{length}
+use borrow.Author.Needs.{needs}
 use Rattle.laws.specs.Sums.{sum}
-use Rattle.laws.proofs.Lists.{tabulate-length}
 use Rattle.paper.specs.Ladder.{buckets}
 use Rattle.paper.specs.Behaviour.{prepaymentRate, loanFlow}
 use Rattle.paper.specs.Flow.{scenarios}
@@ -12,9 +11,8 @@ use Rattle.paper.specs.Sound.{SoundFlows}
 use Rattle.record.specs.Told.{amountsFrom}
 use Rattle.posting.specs.Parts.{trillion}
 use Rattle.slotting.proofs.Entered.{amounts-few}
-use Rattle.slotting.proofs.Rows.{byPlace, row-at, row-small, rows-slotted}
+use Rattle.slotting.proofs.Rows.{byPlace, row-at, row-long, row-small, rows-slotted}
 use Rattle.slotting.proofs.Prepayment.{loan-flow, loan-size, loan-small, schedule-of}
-use borrow.Author.Needs.{needs}
 use Rattle.slotting.proofs.loan.slot_loan.Statement.{statement}
 use Rattle.slotting.proofs.loan.slot_loan.Tie as tie
 
@@ -44,7 +42,7 @@ enter-requires c κs =
     let row : ℕ → ℕ → ℕ = λ i. loanFlow (prepaymentRate share i) (amountsFrom body 3) (amountsFrom body 79) in
     let filled = c .before .before .before .before .before .before .loan-flows .ensures in
     let small = loan-small (amountsFrom body 3) (amountsFrom body 79) (amounts-few body 79) (schedule-of share _ _ (s .pre .0 .1)) in (
-      (ap length (filled .0) ∙ tabulate-length _ sectionSize, ap length (filled .1) ∙ tabulate-length _ scenarios),
+      (row-long (byPlace row) sectionSize (filled .0), row-long (λ i. sum (row i) buckets) scenarios (filled .1)),
       (
         (
           row-small (byPlace row) sectionSize trillion (filled .0) (λ j l. omega (arith, small (prepaymentRate share (j / buckets)) .1 (j % buckets) (omega arith))),

@@ -5,11 +5,11 @@ use native.Mathlib.Omega.{arith}
 use lib.IntN.{pos, _+ℤ_, +ℤ-idr}
 use lib.ListN.{length, getD}
 use mir.Syntax.{w64}
+use borrow.Author.Needs.{needs}
 use Rattle.laws.proofs.Fits.{back}
 use Rattle.paper.specs.Flow.{sided}
 use Rattle.posting.proofs.Loops.{Joining, joining-none, joining-rest, joining-next, joining-done}
 use Rattle.posting.proofs.Sides.{abs-sided, sum-fits}
-use borrow.Author.Needs.{needs}
 use Rattle.slotting.proofs.option_add_on.add_values.Statement.{statement}
 use Rattle.slotting.proofs.option_add_on.add_values.Tie as tie
 

@@ -1,10 +1,10 @@
 use native.Mathlib.Omega.{arith}
 use lib.IntN.{pos, _-ℤ_}
 use mir.Facts.{toZ-ofZ}
+use borrow.Author.Needs.{needs}
 use Rattle.laws.proofs.Integers.{diff-down, zero-sub, abs-neg}
 use Rattle.laws.proofs.Fits.{nonneg-of, test-below, test-not-below}
 use Rattle.posting.proofs.Sides.{minus-fits}
-use borrow.Author.Needs.{needs}
 use Rattle.slotting.proofs.option_add_on.magnitude.Statement.{statement}
 use Rattle.slotting.proofs.option_add_on.magnitude.Tie as tie
 

@@ -5,10 +5,10 @@ use native.Mathlib.Omega.{arith}
 use lib.IntN.{pos, natAbs}
 use lib.ListN.{length, getD}
 use mir.Syntax.{w64}
+use borrow.Author.Needs.{needs}
 use Rattle.laws.proofs.Fits.{back}
 use Rattle.laws.proofs.Lists.{tabulate-is}
 use Rattle.posting.proofs.Loops.{Filled, filled-none, filled-next}
-use borrow.Author.Needs.{needs}
 use Rattle.slotting.proofs.option_add_on.magnitudes.Statement.{statement}
 use Rattle.slotting.proofs.option_add_on.magnitudes.Tie as tie
 

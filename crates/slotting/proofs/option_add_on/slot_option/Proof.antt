@@ -1,21 +1,20 @@
 use Prim.Native.Nat.{_≤_}
 use mathlib.Core.Bool.{true, false}
 use mathlib.Core.Path.{refl, sym, ap, subst, _∙_}
+use mathlib.Core.List.{List}
 use native.Mathlib.Omega.{arith}
 use lib.IntN.{ℤ, pos}
 use lib.ListN.{length, getD}
-use mathlib.Core.List.{List}
+use borrow.Author.Needs.{needs}
 use Rattle.laws.proofs.Lists.{tabulate-length}
 use Rattle.paper.specs.Scales.{billion}
 use Rattle.paper.specs.Flow.{sided}
 use Rattle.arrays.specs.Slots.{plusℤ}
-use Rattle.slotting.specs.Meant.{valuesOf}
-use Rattle.posting.specs.Parts.{AtMost, AtMostℤ}
-use Rattle.posting.specs.Parts.{trillion}
+use Rattle.posting.specs.Parts.{AtMost, AtMostℤ, trillion}
 use Rattle.posting.proofs.Loops.{tabulate-all}
+use Rattle.slotting.specs.Meant.{valuesOf}
 use Rattle.slotting.proofs.Entered.{option-slotted}
 use Rattle.slotting.proofs.Options.{values-small, values-back, magnitudes-back, option-sized, option-adds}
-use borrow.Author.Needs.{needs}
 use Rattle.slotting.proofs.option_add_on.slot_option.Statement.{statement}
 use Rattle.slotting.proofs.option_add_on.slot_option.Tie as tie
 

@@ -3,13 +3,13 @@ use mathlib.Core.Bool.{true, false}
 use mathlib.Core.Path.{refl, sym, ap₂, _∙_}
 use native.Mathlib.Omega.{arith}
 use lib.IntN.{ℤ, pos}
+use borrow.Author.Needs.{needs}
 use Rattle.arrays.specs.Slots.{plusℤ}
 use Rattle.posting.specs.Parts.{column, trillion}
 use Rattle.posting.proofs.Loops.{replicate-all}
 use Rattle.posting.proofs.Sides.{abs-sided}
 use Rattle.posting.proofs.Limit.{entered, same-size}
 use Rattle.slotting.proofs.Entered.{due-column}
-use borrow.Author.Needs.{needs}
 use Rattle.slotting.proofs.single.slot_due.Statement.{statement}
 use Rattle.slotting.proofs.single.slot_due.Tie as tie
 

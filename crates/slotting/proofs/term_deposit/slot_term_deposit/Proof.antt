@@ -1,8 +1,7 @@
-use Prim.Native.Nat.{_/_, _%_, _≤_}
-use mathlib.Core.Path.{refl, sym, ap, _∙_}
+use Prim.Native.Nat.{ℕ, _/_, _%_, _≤_}
+use mathlib.Core.Path.{refl, sym, _∙_}
 use native.Mathlib.Omega.{arith}
-use lib.ListN.{length}
-use Rattle.laws.proofs.Lists.{tabulate-length}
+use borrow.Author.Needs.{needs}
 use Rattle.paper.specs.Ladder.{buckets}
 use Rattle.paper.specs.Behaviour.{withdrawalRate, termDepositFlow}
 use Rattle.paper.specs.Ledger.{sectionSize}
@@ -11,11 +10,10 @@ use Rattle.paper.specs.Sound.{SoundFlows}
 use Rattle.record.specs.Told.{amountsFrom}
 use Rattle.posting.specs.Parts.{trillion}
 use Rattle.posting.proofs.Loops.{replicate-all}
-use Rattle.slotting.proofs.Rows.{byPlace, row-small, rows-slotted}
 use Rattle.posting.proofs.Limit.{same-size}
+use Rattle.slotting.proofs.Rows.{byPlace, row-long, row-small, rows-slotted}
 use Rattle.slotting.proofs.Entered.{amounts-few, amounts-small}
 use Rattle.slotting.proofs.Deposited.{withdrawn-small, withdrawn-flow}
-use borrow.Author.Needs.{needs}
 use Rattle.slotting.proofs.term_deposit.slot_term_deposit.Statement.{statement}
 use Rattle.slotting.proofs.term_deposit.slot_term_deposit.Tie as tie
 
@@ -45,11 +43,12 @@ enter-requires c κs =
     let amounts = amountsFrom (s .args .body .now) 3 in
     let filled = c .before .before .before .before .before .withdrawn-flows .ensures in
     let size = c .before .before .before .before .before .before .before .sum-from .ensures in
+    let row : ℕ → ℕ = byPlace (λ i. termDepositFlow (withdrawalRate share i) amounts) in
     let small = withdrawn-small share amounts (amounts-few (s .args .body .now) 3) in (
-      (ap length filled ∙ tabulate-length _ sectionSize, refl),
+      (row-long row sectionSize filled, refl),
       (
         (
-          row-small (byPlace (λ i. termDepositFlow (withdrawalRate share i) amounts)) sectionSize trillion filled
+          row-small row sectionSize trillion filled
               (λ j l. omega (arith, small (j / buckets) (j % buckets) (omega arith), size .0, size .1)),
           replicate-all 0 (λ n. n ≤ trillion) 7 (c .before .before .before .before .before .before .before .sum-from .result) (omega (arith, size .1)) (omega arith),
         ),

@@ -4,6 +4,7 @@ use mathlib.Core.Path.{_≡_, refl, sym, ap, ap₂, _∙_}
 use native.Mathlib.Nat.{le-refl}
 use native.Mathlib.Omega.{arith}
 use lib.ListN.{length, getD, length-set}
+use borrow.Author.Needs.{needs}
 use Rattle.laws.specs.Sums.{sum}
 use Rattle.laws.proofs.Lists.{tabulate-length}
 use Rattle.laws.proofs.Sums.{sum-more}
@@ -11,7 +12,6 @@ use Rattle.paper.specs.Behaviour.{moved}
 use Rattle.record.specs.Told.{amountsFrom}
 use Rattle.posting.proofs.Loops.{Filled, filled-none, filled-next}
 use Rattle.slotting.proofs.Deposited.{withdrawn-row}
-use borrow.Author.Needs.{needs}
 use Rattle.slotting.proofs.term_deposit.withdrawn.Statement.{statement}
 use Rattle.slotting.proofs.term_deposit.withdrawn.Tie as tie
 

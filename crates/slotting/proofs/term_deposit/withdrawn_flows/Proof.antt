@@ -2,6 +2,7 @@
 use Prim.Native.Nat.{ℕ, _+_, _*_, _-_, _≤_}
 use mathlib.Core.Path.{_≡_, refl, sym, ap, _∙_}
 use native.Mathlib.Omega.{arith}
+use borrow.Author.Needs.{needs}
 use Rattle.laws.specs.Tests.{all}
 use Rattle.laws.specs.Lists.{tabulate}
 use Rattle.laws.proofs.Sections.{length-section}
@@ -10,7 +11,6 @@ use Rattle.paper.specs.Behaviour.{behaviouralRate, withdrawalMultipliers, withd
 use Rattle.paper.proofs.Deposits.{rate-at-most}
 use Rattle.record.specs.Told.{amountsFrom}
 use Rattle.slotting.proofs.Rows.{Rows, rows-none, rows-next, rows-done, multiplier-small}
-use borrow.Author.Needs.{needs}
 use Rattle.slotting.proofs.term_deposit.withdrawn_flows.Statement.{statement}
 use Rattle.slotting.proofs.term_deposit.withdrawn_flows.Tie as tie
 

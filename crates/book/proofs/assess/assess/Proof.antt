@@ -1,0 +1,86 @@
+-- `assess`: 18, 17 and 16 in this order, then the records.
+use mathlib.Core.Path.{sym, _∙_}
+use native.Mathlib.Omega.{arith}
+use lib.Seq.{length-take-le}
+use Rattle.book.proofs.Answering.{room-refused, room-enough, book-refused, capital-refused, capital-fits, by-records}
+use borrow.Author.Needs.{needs}
+use Rattle.book.proofs.assess.assess.Statement.{statement}
+use Rattle.book.proofs.assess.assess.Tie as tie
+
+room-too-small-requires : tie.Need-room-too-small-requires
+room-too-small-requires c κs = search needs
+
+returns : tie.Need-returns
+returns c = room-refused _ _ _ _ (sym (c .before .room-too-small .ensures) ∙ c .if1 .taken)
+
+returns-2 : tie.Need-returns-2
+returns-2 c =
+    let rooms = c .before in
+    book-refused _ _ _ _ (sym (rooms .before .room-too-small .ensures) ∙ rooms .if1 .left) (omega arith)
+
+bad-capital-requires : tie.Need-bad-capital-requires
+bad-capital-requires c κs = search needs
+
+returns-3 : tie.Need-returns-3
+returns-3 c =
+    let capital = c .before in
+    let rooms = capital .before .before in
+    capital-refused _ _ _ _ (sym (rooms .before .room-too-small .ensures) ∙ rooms .if1 .left) (omega arith) (sym (capital .bad-capital .ensures) ∙ c .if3 .taken)
+
+sub-assess-records : tie.Need-sub-assess-records
+sub-assess-records c = search needs
+
+part-assess-records-start : tie.Need-part-assess-records-start
+part-assess-records-start c = search needs
+
+part-assess-records-end : tie.Need-part-assess-records-end
+part-assess-records-end c = let rooms = c .before .before .before in let long = room-enough _ _ (sym (rooms .before .room-too-small .ensures) ∙ rooms .if1 .left) in search (needs, long)
+
+sub-assess-records-2 : tie.Need-sub-assess-records-2
+sub-assess-records-2 c = search needs
+
+part-assess-records-start-2 : tie.Need-part-assess-records-start-2
+part-assess-records-start-2 c = search needs
+
+part-assess-records-end-2 : tie.Need-part-assess-records-end-2
+part-assess-records-end-2 c = let rooms = c .before .before .before .before in let long = room-enough _ _ (sym (rooms .before .room-too-small .ensures) ∙ rooms .if1 .left) in search (needs, long)
+
+assess-records-requires : tie.Need-assess-records-requires
+assess-records-requires c κs =
+    let capital = c .before .before .before in
+    let rooms = capital .before .before in
+    let start = rooms .before .before .before in
+    let long = room-enough _ _ (sym (rooms .before .room-too-small .ensures) ∙ rooms .if1 .left) in
+    ((omega arith, capital-fits _ (sym (capital .bad-capital .ensures) ∙ c .before .before .if3 .left)), (length-take-le 58 (start .args .report .now) (long .0), length-take-le 1064 (start .args .ledger .now) (long .1)))
+
+same-length : tie.Need-same-length
+same-length c = search needs
+
+same-length-2 : tie.Need-same-length-2
+same-length-2 c = search needs
+
+returns-4 : tie.Need-returns-4
+returns-4 c =
+    let capital = c .before .before .before .before .before .before in
+    let rooms = capital .before .before in
+    by-records _ _ _ _ (sym (rooms .before .room-too-small .ensures) ∙ rooms .if1 .left) (omega arith) (sym (capital .bad-capital .ensures) ∙ c .before .before .before .before .before .if3 .left) _ _ _ (c .before .before .assess-records .ensures)
+
+pub assess-spec : {M : Type 1} → statement M
+assess-spec =
+    tie.close
+    (tie.spec
+    room-too-small-requires
+    returns
+    returns-2
+    bad-capital-requires
+    returns-3
+    sub-assess-records
+    part-assess-records-start
+    part-assess-records-end
+    sub-assess-records-2
+    part-assess-records-start-2
+    part-assess-records-end-2
+    assess-records-requires
+    same-length
+    same-length-2
+    returns-4)
