@@ -47,3 +47,8 @@ truthful {book} {T} {report} {ledger} {report'} p = record {
       (λ j l. ap (λ (r : List ℤ). figure r j) is ∙ List·getD-append (reportOf t T) (drop figures report) (pos 0) j (omega (arith, report-long t T)))
       (accepted-true book T (length report) (length ledger) kept e);
 }
+
+-- the second clause follows from the first
+pub promised : {book : List ℕ} {T : ℕ} {report ledger report' ledger' : List ℤ} {a : Assessed} → Assesses book T report ledger a report' ledger'
+    → Assesses book T report ledger a report' ledger' × Truthful book T report ledger report'
+promised p = (p, truthful p)

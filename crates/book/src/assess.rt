@@ -4,7 +4,7 @@ ghost use Prim.Native.Nat.{_≤_};
 ghost use lib.ListN.{length};
 ghost use Rattle.paper.specs.Ledger.{cells, figures};
 ghost use Rattle.paper.specs.TurnedDown.{badCapital, roomTooSmall};
-ghost use Rattle.book.specs.Assessed.{Answers, Assesses, ofRecords};
+ghost use Rattle.book.specs.Assessed.{Answers, Assesses, Truthful, ofRecords};
 use crate::masks::lowest_missing;
 use crate::rooms::clear;
 use crate::walked::Walked;
@@ -75,6 +75,7 @@ pub fn bad_capital(tier1: u64) -> bool
 
 pub fn assess(book: &[u8], tier1: u64, report: &mut [i64], ledger: &mut [i64]) -> Assessed
     ensures { λ r. ⌜ Assesses (now (book .entry)) tier1 (now (report .entry)) (now (ledger .entry)) r (now (report .exit)) (now (ledger .exit)) ⌝ }
+    ensures { λ r. ⌜ Truthful (now (book .entry)) tier1 (now (report .entry)) (now (ledger .entry)) (now (report .exit)) ⌝ }
 {
     if room_too_small(report.len(), ledger.len()) {
         return Assessed::Refused(Refusal::RoomTooSmall, 0);

@@ -2,6 +2,7 @@
 use mathlib.Core.Path.{sym, _∙_}
 use native.Mathlib.Omega.{arith}
 use lib.Seq.{length-take-le}
+use Rattle.book.proofs.Truth.{promised}
 use Rattle.book.proofs.Answering.{room-refused, room-enough, book-refused, capital-refused, capital-fits, by-records}
 use borrow.Author.Needs.{needs}
 use Rattle.book.proofs.assess.assess.Statement.{statement}
@@ -11,12 +12,12 @@ room-too-small-requires : tie.Need-room-too-small-requires
 room-too-small-requires c κs = search needs
 
 returns : tie.Need-returns
-returns c = room-refused _ _ _ _ (sym (c .before .room-too-small .ensures) ∙ c .if1 .taken)
+returns c = promised (room-refused _ _ _ _ (sym (c .before .room-too-small .ensures) ∙ c .if1 .taken))
 
 returns-2 : tie.Need-returns-2
 returns-2 c =
     let rooms = c .before in
-    book-refused _ _ _ _ (sym (rooms .before .room-too-small .ensures) ∙ rooms .if1 .left) (omega arith)
+    promised (book-refused _ _ _ _ (sym (rooms .before .room-too-small .ensures) ∙ rooms .if1 .left) (omega arith))
 
 bad-capital-requires : tie.Need-bad-capital-requires
 bad-capital-requires c κs = search needs
@@ -25,7 +26,7 @@ returns-3 : tie.Need-returns-3
 returns-3 c =
     let capital = c .before in
     let rooms = capital .before .before in
-    capital-refused _ _ _ _ (sym (rooms .before .room-too-small .ensures) ∙ rooms .if1 .left) (omega arith) (sym (capital .bad-capital .ensures) ∙ c .if3 .taken)
+    promised (capital-refused _ _ _ _ (sym (rooms .before .room-too-small .ensures) ∙ rooms .if1 .left) (omega arith) (sym (capital .bad-capital .ensures) ∙ c .if3 .taken))
 
 sub-assess-records : tie.Need-sub-assess-records
 sub-assess-records c = search needs
@@ -63,7 +64,7 @@ returns-4 : tie.Need-returns-4
 returns-4 c =
     let capital = c .before .before .before .before .before .before in
     let rooms = capital .before .before in
-    by-records _ _ _ _ (sym (rooms .before .room-too-small .ensures) ∙ rooms .if1 .left) (omega arith) (sym (capital .bad-capital .ensures) ∙ c .before .before .before .before .before .if3 .left) _ _ _ (c .before .before .assess-records .ensures)
+    promised (by-records _ _ _ _ (sym (rooms .before .room-too-small .ensures) ∙ rooms .if1 .left) (omega arith) (sym (capital .bad-capital .ensures) ∙ c .before .before .before .before .before .if3 .left) _ _ _ (c .before .before .assess-records .ensures))
 
 pub assess-spec : {M : Type 1} → statement M
 assess-spec =
