@@ -13,6 +13,7 @@ pub mod Walking
 pub mod Walks
 pub mod Causes
 pub mod Answering
+pub mod Facing
 -- what `assess` promises
 pub mod Truth
 pub mod Unique

@@ -1,6 +1,7 @@
 // The book: the walk over its records, and the entry function (01, "Records", "From flows to verdict", "Turned down").
 pub mod assess;
 pub mod curves;
+pub mod face;
 pub mod masks;
 pub mod positions;
 pub mod records;
