@@ -64,7 +64,7 @@ fn kinds_up_to(draw: &mut Draw, length: usize) -> Vec<u8> {
 fn kinds_filling(draw: &mut Draw, length: usize) -> Vec<u8> {
     let mut kinds = kinds_up_to(draw, length - 200);
     let mut left = length - kinds.iter().map(|kind| record_length(*kind)).sum::<usize>();
-    while !left.is_multiple_of(record_length(1)) {
+    while left % record_length(1) != 0 {
         let kind = if left % 2 == 1 { 7 } else { 2 };
         kinds.push(kind);
         left -= record_length(kind);
