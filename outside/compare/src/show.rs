@@ -1,0 +1,7 @@
+//! A case on one line, for people.
+
+/// T, and the book's bytes as a `raw` line of `bookkit` takes them.
+pub fn input(capital: u64, book: &[u8]) -> String {
+    let bytes: Vec<String> = book.iter().map(|byte| format!("{byte:02x}")).collect();
+    format!("T {capital}, book of {} bytes: raw {}", book.len(), bytes.join(" "))
+}
