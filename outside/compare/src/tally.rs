@@ -5,12 +5,8 @@ use std::ops::AddAssign;
 
 /// The numbers of 01's table of refusals.
 const NUMBERS: usize = 18;
-/// A book counts as long from here on.
+/// A book counts as long above this.
 const LONG: usize = 60_000;
-/// Runs shorter than this promise nothing about what they reach.
-const SHORTEST_WITH_FLOORS: u64 = 10_000;
-/// Each refusal number, and a good long book, comes at least once in so many cases.
-const ONCE_IN: u64 = 200;
 
 #[derive(Clone, Default)]
 pub struct Tally {
@@ -21,6 +17,21 @@ pub struct Tally {
     pub refused: [u64; NUMBERS],
     pub differences: u64,
 }
+
+/// What a run has to reach to count, from `shortest` cases on: each refusal number up to `last_number`, and a good
+/// long book, at least once in so many cases.
+pub struct Floors {
+    pub last_number: usize,
+    pub shortest: u64,
+    pub once_in: u64,
+    /// One report at least is held against exact numbers.
+    pub judged: bool,
+}
+
+/// In 20,000 cases each number comes 100 times, or the run fails.
+pub const FACE: Floors = Floors { last_number: 18, shortest: 10_000, once_in: 200, judged: true };
+/// The report program has no rooms to be too short: it never gives 18.
+pub const PROGRAM: Floors = Floors { last_number: 17, shortest: 500, once_in: 500, judged: false };
 
 impl Tally {
     pub fn count(&mut self, book: &[u8], due: &Answer) {
@@ -37,7 +48,8 @@ impl Tally {
     /// The one line at the end.
     pub fn line(&self, what: &str) -> String {
         let Tally { cases, reported, long, judged, differences, .. } = self;
-        let numbers: Vec<String> = (1..).zip(self.refused).map(|(number, times)| format!("{number}: {times}")).collect();
+        let times = |(number, times): (usize, u64)| format!("{number}: {times}");
+        let numbers: Vec<String> = (1..).zip(self.refused).map(times).collect();
         format!(
             "{what}: {cases} cases, {reported} reported ({long} of more than {LONG} bytes, {judged} judged by exact \
              numbers), turned down {}; {differences} differences",
@@ -46,21 +58,21 @@ impl Tally {
     }
 
     /// Why the run does not count as passed, if it does not.
-    pub fn complaint(&self) -> Option<String> {
+    pub fn complaint(&self, floors: &Floors) -> Option<String> {
         if self.differences > 0 {
             return Some(format!("{} cases differ", self.differences));
         }
-        if self.cases < SHORTEST_WITH_FLOORS {
+        if self.cases < floors.shortest {
             return None;
         }
-        let floor = self.cases / ONCE_IN;
-        let rare = (1..).zip(self.refused).find(|(_, times)| *times < floor);
+        let floor = self.cases / floors.once_in;
+        let rare = (1..=floors.last_number).zip(self.refused).find(|(_, times)| *times < floor);
         match rare {
             Some((number, times)) => Some(format!("refusal {number} was reached {times} times, fewer than {floor}")),
             None if self.long < floor => {
                 Some(format!("{} good books had more than {LONG} bytes, fewer than {floor}", self.long))
             }
-            None if self.judged == 0 => Some("no report was judged by exact numbers".to_string()),
+            None if floors.judged && self.judged == 0 => Some("no report was judged by exact numbers".to_string()),
             None => None,
         }
     }
@@ -74,5 +86,44 @@ impl AddAssign<&Tally> for Tally {
         self.judged += other.judged;
         self.differences += other.differences;
         self.refused.iter_mut().zip(other.refused).for_each(|(sum, times)| *sum += times);
+    }
+}
+
+#[cfg(test)]
+mod tests {
+    use super::{Tally, FACE};
+
+    fn enough() -> Tally {
+        Tally { cases: 20_000, reported: 18_200, long: 100, judged: 1, refused: [100; 18], differences: 0 }
+    }
+
+    #[test]
+    fn enough_is_enough() {
+        assert_eq!(enough().complaint(&FACE), None);
+    }
+
+    #[test]
+    fn a_number_that_is_rare_fails_the_run() {
+        for index in 0..18 {
+            let mut tally = enough();
+            tally.refused[index] = 99;
+            let complaint = tally.complaint(&FACE).unwrap_or_default();
+            assert!(complaint.starts_with(&format!("refusal {} was reached 99 times", index + 1)), "{complaint}");
+        }
+    }
+
+    #[test]
+    fn no_long_book_no_exact_number_or_a_difference_fails_the_run() {
+        let complaint = |tally: Tally| tally.complaint(&FACE).unwrap_or_default();
+        assert!(complaint(Tally { long: 99, ..enough() }).contains("60000 bytes"));
+        assert!(complaint(Tally { judged: 0, ..enough() }).contains("exact numbers"));
+        assert_eq!(complaint(Tally { differences: 1, ..enough() }), "1 cases differ");
+    }
+
+    #[test]
+    fn batches_add_up() {
+        let mut all = enough();
+        all += &enough();
+        assert_eq!((all.cases, all.refused, all.long), (40_000, [200; 18], 200));
     }
 }
