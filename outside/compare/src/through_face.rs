@@ -5,6 +5,7 @@ use crate::rooms::{Call, Outcome};
 use crate::show;
 use crate::tally::Tally;
 use reference::{Answer, Exact};
+use std::time::Instant;
 
 /// Shrinking takes many calls; the first few differences tell the story.
 const SHRUNK: u64 = 3;
@@ -55,9 +56,10 @@ fn unsound(call: &Call, answer: &Answer, tally: &mut Tally) -> Option<String> {
 }
 
 fn show_smallest(face: &mut Face, call: &Call) {
+    let begin = Instant::now();
     let small = books::shrink(&call.book, |book| {
         let call = call.with_book(book);
-        difference(face, &call, &call.request().answer()).is_some()
+        begin.elapsed() < show::SHRINKING && difference(face, &call, &call.request().answer()).is_some()
     });
     let small = call.with_book(&small);
     let why = difference(face, &small, &small.request().answer()).unwrap_or_default();

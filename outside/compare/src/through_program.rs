@@ -5,6 +5,7 @@ use crate::show;
 use crate::tally::Tally;
 use reference::{answer_input, irreport, CAPITAL_BYTES, GREATEST_CAPITAL, LONGEST_BOOK};
 use std::process::Output;
+use std::time::Instant;
 
 /// Small writes take a system call each: longer inputs are written at once.
 const LONGEST_BY_ONES: usize = 1_000;
@@ -82,7 +83,10 @@ fn difference(program: &Program, input: &[u8], manner: Manner) -> Option<String>
 fn show_smallest(program: &Program, input: &[u8], manner: Manner) {
     let Some((capital, book)) = reference::split_input(input) else { return };
     let with_capital = |book: &[u8]| [&capital.to_be_bytes()[..], book].concat();
-    let small = books::shrink(book, |book| difference(program, &with_capital(book), manner).is_some());
+    let begin = Instant::now();
+    let small = books::shrink(book, |book| {
+        begin.elapsed() < show::SHRINKING && difference(program, &with_capital(book), manner).is_some()
+    });
     let why = difference(program, &with_capital(&small), manner).unwrap_or_default();
     println!("  smallest: {why}; {}", show::input(capital, &small));
 }
