@@ -13,20 +13,24 @@ const LONGEST_BY_SEVENS: usize = 20_000;
 /// A start of the program for each try of the shrinker: only the first differences are shrunk.
 const SHRUNK: u64 = 2;
 
-/// Inputs at the edges of length and of T, then the cases of the seeds from the first on.
+/// Inputs at the edges of length and of T, each in every manner; then the cases of the seeds from the first on.
 pub fn compare(program: &Program, first_seed: u64, cases: u64) -> Tally {
     let mut tally = Tally::default();
-    for (index, input) in edges().into_iter().enumerate() {
-        for manner in manners(&input) {
-            compare_input(program, &format!("edge {index}, {manner:?}"), &input, manner, &mut tally);
+    for (index, input) in edges().iter().enumerate() {
+        for manner in manners(input) {
+            compare_input(program, &format!("edge {index}, {manner:?}"), input, manner, &mut tally);
         }
     }
+    let at_the_edges = tally.differences;
     for index in 0..cases {
         let seed = first_seed.wrapping_add(index);
         let input = books::case(seed).input();
         let choices = manners(&input);
         let manner = choices[index as usize % choices.len()];
-        compare_input(program, &format!("seed {seed}, {manner:?}"), &input, manner, &mut tally);
+        let differs = compare_input(program, &format!("seed {seed}, {manner:?}"), &input, manner, &mut tally);
+        if differs && tally.differences - at_the_edges <= SHRUNK {
+            show_smallest(program, &input, manner);
+        }
     }
     tally
 }
@@ -54,14 +58,12 @@ fn manners(input: &[u8]) -> Vec<Manner> {
     manners
 }
 
-fn compare_input(program: &Program, which: &str, input: &[u8], manner: Manner, tally: &mut Tally) {
+fn compare_input(program: &Program, which: &str, input: &[u8], manner: Manner, tally: &mut Tally) -> bool {
     tally.count(input.get(CAPITAL_BYTES..).unwrap_or_default(), &answer_input(input));
-    let Some(difference) = difference(program, input, manner) else { return };
+    let Some(difference) = difference(program, input, manner) else { return false };
     tally.differences += 1;
-    println!("difference at {which}: {difference}");
-    if tally.differences <= SHRUNK {
-        show_smallest(program, input, manner);
-    }
+    println!("difference at {which}, {} bytes: {difference}", input.len());
+    true
 }
 
 fn difference(program: &Program, input: &[u8], manner: Manner) -> Option<String> {
