@@ -16,9 +16,9 @@ struct Running {
 }
 
 impl Face {
-    /// The command may begin with an emulator.
-    pub fn of(command: &[String]) -> Face {
-        Face { command: command.to_vec(), running: None }
+    /// The command may begin with an emulator. A program that cannot be started is an error here, no difference.
+    pub fn start(command: &[String]) -> Result<Face, String> {
+        Ok(Face { command: command.to_vec(), running: Some(start(command)?) })
     }
 
     /// Makes the call. A program that dies of it is an error that says how; the next call starts it afresh.

@@ -60,18 +60,18 @@ fn run(words: &[&str], command: &[String]) -> Result<Ending, String> {
         (["face" | "first" | "long" | "irreport" | "streams", ..], []) => Err("-- COMMAND is wanted".to_string()),
         ([mode @ ("face" | "first"), seed, cases], _) => {
             let only_first = *mode == "first";
-            let tally = through_face::compare(&mut Face::of(command), number(seed)?, number(cases)?, only_first);
+            let tally = through_face::compare(&mut Face::start(command)?, number(seed)?, number(cases)?, only_first);
             Ok(ending(format!("C face, seeds from {seed}"), tally, &FACE))
         }
         (["long", seconds], _) => {
-            let tally = long::compare(&mut Face::of(command), number(seconds)?);
+            let tally = long::compare(&mut Face::start(command)?, number(seconds)?);
             Ok(ending(format!("C face, fresh seeds for {seconds} s"), tally, &FACE))
         }
         (["irreport", seed, cases], _) => {
-            let tally = through_program::compare(&Program::of(command), number(seed)?, number(cases)?);
+            let tally = through_program::compare(&Program::of(command)?, number(seed)?, number(cases)?);
             Ok(ending(format!("irreport, seeds from {seed}"), tally, &PROGRAM))
         }
-        (["streams"], _) => streams(&Program::of(command)),
+        (["streams"], _) => streams(&Program::of(command)?),
         (["inputs", seed, cases, directory], []) => inputs(number(seed)?, number(cases)?, Path::new(directory)),
         (["help" | "--help" | "-h"], []) => Ok(Ending { line: HELP.trim_end().to_string(), complaint: None }),
         _ => Err("face, first, long, irreport, streams, inputs or help is wanted, as help says".to_string()),

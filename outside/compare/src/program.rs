@@ -22,8 +22,10 @@ pub struct Program {
 }
 
 impl Program {
-    pub fn of(command: &[String]) -> Program {
-        Program { command: command.to_vec() }
+    /// A program that cannot be started is an error here, no difference.
+    pub fn of(command: &[String]) -> Result<Program, String> {
+        let program = Program { command: command.to_vec() };
+        program.run(&[], Manner::AtOnce).map(|_| program)
     }
 
     /// The program with these streams; standard error is always caught.

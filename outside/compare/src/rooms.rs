@@ -87,3 +87,27 @@ fn first_difference(room: &str, found: &[i64], due: &[i64]) -> Option<String> {
     let cell = found.iter().zip(due).position(|(one, other)| one != other)?;
     Some(format!("{room} cell {cell} is {} and {} was due", found[cell], due[cell]))
 }
+
+#[cfg(test)]
+mod tests {
+    use super::{pattern, Call};
+    use std::collections::BTreeSet;
+
+    /// A cell that is written with what it should hold anyway would hide a difference.
+    #[test]
+    fn no_two_cells_of_a_pattern_are_alike_and_none_is_nil() {
+        for seed in 0..100 {
+            let cells = pattern(seed, 2_000);
+            let different: BTreeSet<i64> = cells.iter().copied().collect();
+            assert!(different.len() == 2_000 && different.iter().all(|cell| cell.unsigned_abs() > 1 << 32), "{seed}");
+        }
+    }
+
+    #[test]
+    fn seeds_lend_no_cell_one_or_more_for_the_place_at_either_end_of_a_page() {
+        let calls: Vec<Call> = (0..64).map(|seed| Call::of(books::case(seed), seed)).collect();
+        let lent: BTreeSet<usize> = calls.iter().map(|call| call.before.place.len()).collect();
+        let at_front = calls.iter().filter(|call| call.at_front).count();
+        assert_eq!((lent, at_front), ([0, 1, 2, 3].into(), 16));
+    }
+}
