@@ -7,8 +7,9 @@ use crate::tally::Tally;
 use reference::{Answer, Exact};
 use std::time::Instant;
 
-/// Shrinking takes many calls; the first few differences tell the story.
+/// Shrinking takes many calls; the first few differences tell the story. Further ones are counted.
 const SHRUNK: u64 = 3;
+const SHOWN: u64 = 20;
 /// One report in so many is held against exact numbers: a fraction takes longer than everything else together.
 const JUDGED_ONCE_IN: u64 = 100;
 
@@ -29,15 +30,20 @@ fn compare_case(face: &mut Face, seed: u64, tally: &mut Tally) {
     let call = Call::of(books::case(seed), seed);
     let answer = call.request().answer();
     tally.count(&call.book, &answer);
-    if let Some(difference) = difference(face, &call, &answer) {
-        tally.differences += 1;
-        println!("difference at seed {seed}: {difference}");
-        if tally.differences <= SHRUNK {
-            show_smallest(face, &call);
-        }
-    } else if let Some(complaint) = unsound(&call, &answer, tally) {
-        tally.differences += 1;
-        println!("difference at seed {seed}: exact numbers contradict the {complaint}");
+    let differs = difference(face, &call, &answer);
+    let found = match &differs {
+        Some(difference) => difference.clone(),
+        None => match unsound(&call, &answer, tally) {
+            Some(complaint) => format!("exact numbers contradict the {complaint}"),
+            None => return,
+        },
+    };
+    tally.differences += 1;
+    if tally.differences <= SHOWN {
+        println!("difference at seed {seed}: {found}");
+    }
+    if tally.differences <= SHRUNK && differs.is_some() {
+        show_smallest(face, &call);
     }
 }
 
