@@ -12,6 +12,7 @@ ghost use Rattle.paper.specs.TurnedDown.{badShocked};
 ghost use Rattle.paper.specs.Sound.{Ranged, Listed};
 ghost use Rattle.curve.specs.Shocked.{shocksOf, curveOf, Sized, twisted, shortShares, shockedSection};
 use ladder::Millionths;
+use signed::rounded;
 
 // Shock sizes, in basis points.
 pub struct Shocks {
@@ -47,18 +48,6 @@ fn short_shares() -> [u32; 19]
     ensures { λ r. ⌜ r ≡ shortShares ⌝ }
 {
     SHORT_SHARES
-}
-
-// Over a billion, halves away from zero.
-fn rounded(z: i64) -> i64
-    requires { ⌜ natAbs z ≤ 200_000_000_000_000 ⌝ }
-    ensures { λ r. ⌜ (r ≡ nearestℤ z billion) × (natAbs r ≤ 200_000) ⌝ }
-{
-    if z < 0 {
-        (z - 500_000_000) / 1_000_000_000
-    } else {
-        (z + 500_000_000) / 1_000_000_000
-    }
 }
 
 // So much of a shock, where its share is so many billionths.

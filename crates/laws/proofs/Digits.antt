@@ -2,7 +2,7 @@
 use Prim.Native.Nat.{ℕ, zero, suc, _+_, _-_, _/_, _%_, _^_, _≤_, _<_, min, max}
 use mathlib.Core.Bool.{Bool, true, false, not, _&&_, _||_}
 use mathlib.Core.Path.{_≡_, refl, sym, ap, ap₂, _∙_}
-use native.Mathlib.Nat.{add-zero, add-suc, zero-add, suc-add, pow-suc}
+use native.Mathlib.Nat.{add-zero, add-suc, zero-add, suc-add, pow-suc, pow-succ', div-one, div-div-eq-div-mul}
 use native.Mathlib.Omega.{arith}
 use lib.Bits.{bitAnd, bitOr, and-step, or-step, or-lt}
 use lib.Count.{trailingZeros, under}
@@ -56,6 +56,12 @@ power-bit (suc j) zero = rw eqb·suc-zero (omega (arith, pow-suc 2 j))
 power-bit (suc j) (suc i) =
     let h : 2 ^ suc j / 2 ≡ 2 ^ j = omega (arith, pow-suc 2 j) in
     rw (h, eqb·suc-suc j i) (power-bit j i)
+
+-- by a shift
+pub bit-shifted : (m i : ℕ) → bit m i ≡ m / 2 ^ i % 2
+unfolding bit
+bit-shifted m zero = ap (λ (x : ℕ). x % 2) (sym (div-one m))
+bit-shifted m (suc i) = bit-shifted (m / 2) i ∙ ap (λ (x : ℕ). x % 2) (div-div-eq-div-mul m 2 (2 ^ i) ∙ ap (λ (x : ℕ). m / x) (sym (pow-succ' 2 i)))
 
 -- ---- a digit as a test
 

@@ -1,13 +1,11 @@
 -- Laws with no product words that `laws` lacks.
-use Prim.Native.Nat.{ℕ, zero, suc, _/_, _%_, _^_, _<_}
+use Prim.Native.Nat.{ℕ, suc, _<_}
 use mathlib.Core.List.{List, _++_, append-assoc, append-nil}
 use mathlib.Core.Path.{_≡_, sym, ap, _∙_}
-use native.Mathlib.Nat.{div-one, div-div-eq-div-mul, pow-succ'}
 use native.Mathlib.Omega.{arith}
 use lib.ListN.{length, getD, take, drop, set, drop-of-length-le}
 use lib.Seq.{take-suc, drop-cons, length-take-le, set-at, take-all}
 use Rattle.laws.specs.Sums.{sum, sumOf}
-use Rattle.laws.specs.Digits.{bit}
 use Rattle.laws.specs.Lists.{tabulate}
 use Rattle.laws.proofs.Sums.{sum-ext}
 use Rattle.laws.proofs.Lists.{tabulate-length, tabulate-at}
@@ -17,13 +15,6 @@ use Rattle.laws.proofs.Totals.{sum-getD}
 pub sum-tabulate : (f : ℕ → ℕ) (n : ℕ) → sumOf (tabulate f n) ≡ sum f n
 sum-tabulate f n =
     sym (sum-getD (tabulate f n) n (omega (arith, tabulate-length f n))) ∙ sum-ext _ f n (λ k l. tabulate-at f n k 0 l)
-
--- a digit, by a shift
-pub bit-shifted : (m i : ℕ) → m / 2 ^ i % 2 ≡ bit m i
-unfolding bit
-bit-shifted m zero = ap (λ (x : ℕ). x % 2) (div-one m)
-bit-shifted m (suc i) =
-    ap (λ (x : ℕ). x % 2) (ap (λ (x : ℕ). m / x) (pow-succ' 2 i) ∙ sym (div-div-eq-div-mul m 2 (2 ^ i))) ∙ bit-shifted (m / 2) i
 
 -- a room filled from the front by a list, one element more
 pub fill-more : {A : Type 0} (xs room : List A) (k : ℕ) (d : A) → k < length xs → k < length room

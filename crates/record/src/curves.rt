@@ -12,6 +12,7 @@ use crate::fields::currency_at;
 use crate::fields::shock_at;
 use crate::rates::Rates;
 use crate::rates::rates_at;
+use arrays::has_curve;
 use curve::Shocks;
 use curve::first_out_of_range;
 use paper::Refusal;
@@ -26,14 +27,7 @@ pub enum DecodedCurve {
     Refused(Refusal),
 }
 
-// 12: the currency has a curve already, by the mask of those that have one.
-fn has_curve(curved: u32, currency: u32) -> bool
-    requires { ⌜ (1 ≤ currency) × (currency ≤ 8) ⌝ }
-    ensures { λ r. ⌜ r ≡ curvedBy curved currency ⌝ }
-{
-    (curved >> (currency - 1)) % 2 == 1
-}
-
+// 12 by the mask of the currencies that have a curve already.
 pub fn decode_curve(body: &[u8], curved: u32) -> DecodedCurve
     requires { ⌜ length (now body) ≡ 83 ⌝ }
     ensures { λ r. ⌜ curveRead (now (body .entry)) r ≡ placed 0 (decodeCurve (curvedBy curved) (now (body .entry))) ⌝ }

@@ -18,16 +18,7 @@ use posting::cells::add_into;
 use posting::cells::sided;
 use posting::room::admits;
 use record::option_add_on::OptionAddOn;
-
-fn magnitude(value: i64) -> u64
-    requires { ⌜ natAbs value ≤ billion ⌝ }
-    ensures { λ r. ⌜ r ≡ natAbs value ⌝ }
-{
-    if value < 0 {
-        return (0 - value) as u64;
-    }
-    value as u64
-}
+use signed::magnitude;
 
 fn magnitudes(values: &[i64], sizes: &mut [u64])
     requires { ⌜ length (now sizes) ≡ length (now values) ⌝ }

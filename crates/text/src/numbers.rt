@@ -1,8 +1,8 @@
 // Numbers in decimal.
 use crate::bytes::put_byte;
+use signed::magnitude;
 ghost use Prim.Native.Nat.{_+_, _≤_};
 ghost use mathlib.Core.Path.{_≡_};
-ghost use lib.IntN.{natAbs};
 ghost use lib.ListN.{length};
 ghost use Rattle.paper.specs.Program.{decimal, signedDecimal};
 ghost use Rattle.text.specs.Written.{Wrote};
@@ -24,17 +24,6 @@ fn digit(d: u64) -> u8
     ensures { λ r. ⌜ r ≡ 48 + d ⌝ }
 {
     48 + d as u8
-}
-
-// The magnitude of the least i64 is no i64, so one is added on the other side of zero.
-fn magnitude(z: i64) -> u64
-    ensures { λ r. ⌜ r ≡ natAbs z ⌝ }
-{
-    if z < 0 {
-        (-(z + 1)) as u64 + 1
-    } else {
-        z as u64
-    }
 }
 
 // With a minus sign below zero.

@@ -2,6 +2,7 @@
 use crate::bytes::put_text;
 use crate::lines::put_headed_line;
 use crate::lines::put_line;
+use arrays::has_curve;
 ghost use Prim.Native.Nat.{_+_, _*_, _≤_};
 ghost use mathlib.Core.List.{[], _∷_, _++_};
 ghost use mathlib.Core.Path.{_≡_};
@@ -21,14 +22,6 @@ const SUMS: usize = 6 * CURRENCIES as usize;
 const MEASURE: usize = SUMS + 6;
 
 const VERDICT: usize = MEASURE + 3;
-
-// Currency c is the binary digit c - 1 of the mask.
-fn has_curve(curved: u32, currency: u32) -> bool
-    requires { ⌜ (1 ≤ currency) × (currency ≤ currencies) ⌝ }
-    ensures { λ r. ⌜ r ≡ curvedBy curved currency ⌝ }
-{
-    (curved >> (currency - 1)) % 2 == 1
-}
 
 // C with currency and six changes; no line where the currency has no curve.
 fn put_changes(out: &mut [u8], at: usize, report: &[i64], curved: u32, currency: u32) -> usize

@@ -22,18 +22,13 @@ use ladder::Exponent;
 use ladder::Millionths;
 use ladder::TenThousandthYears;
 use ladder::Thousands;
+use signed::magnitude;
+use signed::rounded;
 
 const BUCKETS: usize = 19;
 
 // A currency's cells.
 const SECTION: usize = 7 * BUCKETS;
-
-fn magnitude(z: i64) -> u64
-    requires { ⌜ natAbs z ≤ billion ⌝ }
-    ensures { λ r. ⌜ r ≡ natAbs z ⌝ }
-{
-    if z < 0 { (0 - z) as u64 } else { z as u64 }
-}
 
 // The sum of magnitudes of a scenario's net flows.
 fn net_size(cells: &[i64], scenario: usize) -> u64
@@ -84,17 +79,11 @@ fn value_of(
     sum
 }
 
-// Billionths of a thousand, divided by a billion, halves away from zero.
-fn rounded(billionths: i64) -> Thousands
+fn in_thousands(billionths: i64) -> Thousands
     requires { ⌜ natAbs billionths ≤ 7_000_000_000 * billion ⌝ }
     ensures { λ r. ⌜ r .0 ≡ nearestℤ billionths billion ⌝ }
 {
-    if billionths < 0 {
-        let below = (billionths - 500_000_000) / 1_000_000_000;
-        return Thousands(below);
-    }
-    let above = (billionths + 500_000_000) / 1_000_000_000;
-    Thousands(above)
+    Thousands(rounded(billionths))
 }
 
 // The six changes.
@@ -114,7 +103,7 @@ fn fill_changes(
     let base = value_of(cells, rates, 0, midpoints, table);
     for i in 0..6 {
         let value = value_of(cells, rates, i + 1, midpoints, table);
-        changes[i] = rounded(base - value).0 + add_ons[i];
+        changes[i] = in_thousands(base - value).0 + add_ons[i];
     }
 }
 

@@ -8,6 +8,7 @@ ghost use Rattle.paper.specs.Verdict.{reportOf};
 ghost use Rattle.factor.specs.Table.{rows};
 ghost use Rattle.arrays.specs.Rooms.{curvedBy, totalsBy};
 ghost use Rattle.valuation.specs.Bounds.{Bounds};
+use arrays::has_curve;
 
 mod change;
 mod measure;
@@ -18,14 +19,6 @@ const CURRENCIES: usize = 8;
 
 // Six for each currency: changes, or tolerances.
 const FIGURES: usize = 6 * CURRENCIES;
-
-// Currency c + 1 is the binary digit c.
-fn has_curve(curved: u32, c: usize) -> bool
-    requires { ⌜ c < currencies ⌝ }
-    ensures { λ r. ⌜ r ≡ curvedBy curved (c + 1) ⌝ }
-{
-    (curved >> c) % 2 == 1
-}
 
 // The report of the ledger, the rates and the add-ons. A currency without a curve has nothing in it and is passed over.
 pub fn fill_report(
@@ -46,7 +39,7 @@ pub fn fill_report(
     let mut changes = [0i64; FIGURES];
     let mut tolerances = [0i64; FIGURES];
     for c in 0..CURRENCIES {
-        if has_curve(curved, c) {
+        if has_curve(curved, c as u32 + 1) {
             change::fill_currency(
                 ledger,
                 rates,

@@ -3,6 +3,7 @@ use Prim.Native.Nat.{_≤_}
 use mathlib.Core.Path.{_≡_, ap₂, _∙_}
 use native.Mathlib.Omega.{arith}
 use borrow.Author.Needs.{needs}
+use lib.Dec.{lit<}
 use lib.IntN.{ℤ, pos, natAbs, _+ℤ_, _-ℤ_, _*ℤ_}
 use mir.Facts.{toZ-ofZ, toZ-pos}
 use mir.Syntax.{w64}
@@ -10,6 +11,7 @@ use mir.Val.{toZ}
 use Rattle.laws.specs.Nearest.{nearestℤ}
 use Rattle.laws.proofs.Fits.{back, sfits-abs}
 use Rattle.laws.proofs.Integers.{abs-is, diff-up, diff-down, abs-add}
+use Rattle.laws.proofs.Nearest.{near-le}
 use Rattle.paper.specs.Scales.{billion}
 use Rattle.curve.specs.Shocked.{twisted}
 use Rattle.curve.proofs.twist.Statement.{statement}
@@ -66,9 +68,10 @@ unfolding twisted
 returns c =
     let d = c .before in
     rw (back w64 (c .rounded .result) (c .rounded .ok)) (
-      (rw (toZ-ofZ (add-rounded d), back w64 (d .before .weighed .result) (d .before .weighed .ok), back w64 (d .weighed2 .result) (d .weighed2 .ok)) at (c .rounded .ensures .0))
+      (rw (toZ-ofZ (add-rounded d), back w64 (d .before .weighed .result) (d .before .weighed .ok), back w64 (d .weighed2 .result) (d .weighed2 .ok)) at (c .rounded .ensures))
           ∙ ap₂ (λ (x y : ℤ). nearestℤ (x +ℤ y) billion) (short-is (d .before)) (long-is d),
-      c .rounded .ensures .1,
+      rw (c .rounded .ensures, toZ-ofZ (add-rounded d), back w64 (d .before .weighed .result) (d .before .weighed .ok), back w64 (d .weighed2 .result) (d .weighed2 .ok))
+          (near-le _ (lit< tt) (omega (arith, abs-add (d .before .weighed .result) (d .weighed2 .result)))),
     )
 
 pub twist-spec : {M : Type 1} → statement M

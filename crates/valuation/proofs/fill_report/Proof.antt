@@ -39,6 +39,12 @@ midpoints-requires c κs = search needs
 loop-holds : tie.Need-loop-holds Inv-loop μ-loop
 loop-holds c = (omega arith, done-none (t (c .before)))
 
+cast-has-curve : tie.Need-cast-has-curve Inv-loop μ-loop
+cast-has-curve c = search needs
+
+add-has-curve : tie.Need-add-has-curve Inv-loop μ-loop
+add-has-curve c = search needs
+
 has-curve-requires : tie.Need-has-curve-requires Inv-loop μ-loop
 has-curve-requires c κs = search needs
 
@@ -114,6 +120,8 @@ fill-report-spec =
     μ-loop
     midpoints-requires
     loop-holds
+    cast-has-curve
+    add-has-curve
     has-curve-requires
     slice-aggregate-fill-currency
     slice-aggregate-fill-currency-2

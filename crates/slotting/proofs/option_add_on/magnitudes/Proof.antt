@@ -29,8 +29,7 @@ shared-slice-copy-out-magnitude : tie.Need-shared-slice-copy-out-magnitude Inv-l
 shared-slice-copy-out-magnitude c = search needs
 
 magnitude-requires : tie.Need-magnitude-requires Inv-loop μ-loop
-magnitude-requires c κs =
-    rw (back w64 _ (c .magnitude-arg .given)) (c .before .before .before .before .pre .1 (c .before .before .loop .j))
+magnitude-requires c κs = search needs
 
 mul-sizes : tie.Need-mul-sizes Inv-loop μ-loop
 mul-sizes c = search needs

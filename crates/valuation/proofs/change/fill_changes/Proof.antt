@@ -78,15 +78,15 @@ module _ (c : tie.After-struct-told Inv-loop μ-loop) where
   abbrev addOn : ℤ
   addOn = getD (start v .args .add-ons .now) (head v .loop .i) (pos 0)
 
-  rounded-is : toZ w64 (ofZ w64 (c .before .before .before .rounded .result .0)) ≡ nearestℤ (value (t (start v)) 1 0 -ℤ value (t (start v)) 1 (i v)) billion
-  rounded-is =
-      back w64 (c .before .before .before .rounded .result .0) (c .struct-told .given .0 .1)
-      ∙ c .before .before .before .rounded .ensures
+  loss-is : toZ w64 (ofZ w64 (c .before .before .before .in-thousands .result .0)) ≡ nearestℤ (value (t (start v)) 1 0 -ℤ value (t (start v)) 1 (i v)) billion
+  loss-is =
+      back w64 (c .before .before .before .in-thousands .result .0) (c .struct-told .given .0 .1)
+      ∙ c .before .before .before .in-thousands .ensures
       ∙ ap (λ (z : ℤ). nearestℤ z billion) (rw (difference-is v) (toZ-ofZ (fits v)))
 
-  change-is : toZ w64 (ofZ w64 (c .before .before .before .rounded .result .0)) +ℤ toZ w64 (ofZ w64 addOn) ≡ change (t (start v)) 1 (i v)
+  change-is : toZ w64 (ofZ w64 (c .before .before .before .in-thousands .result .0)) +ℤ toZ w64 (ofZ w64 addOn) ≡ change (t (start v)) 1 (i v)
   unfolding change
-  change-is = ap₂ _+ℤ_ rounded-is (back w64 addOn (c .before .before .changes .given) ∙ sym (part-addOn (start v .args .add-ons .now) (head v .loop .i)))
+  change-is = ap₂ _+ℤ_ loss-is (back w64 addOn (c .before .before .changes .given) ∙ sym (part-addOn (start v .args .add-ons .now) (head v .loop .i)))
 
   change-held : SFits w64 (change (t (start v)) 1 (i v))
   change-held = change-fits (t (start v)) 1 (start v .pre .1 .0) (i v) (low v) (high v)
@@ -106,11 +106,11 @@ value-of-requires-2 c κs =
     let s = c .before .before .before .before in
     ((search needs, search needs, omega arith), (row s (c .before .loop .i + 1) (omega arith), (s .pre .1 .1 .0, s .pre .1 .1 .1)))
 
-sub-rounded : tie.Need-sub-rounded Inv-loop μ-loop
-sub-rounded c = rw (difference-is c) (fits c)
+sub-in-thousands : tie.Need-sub-in-thousands Inv-loop μ-loop
+sub-in-thousands c = rw (difference-is c) (fits c)
 
-rounded-requires : tie.Need-rounded-requires Inv-loop μ-loop
-rounded-requires c κs =
+in-thousands-requires : tie.Need-in-thousands-requires Inv-loop μ-loop
+in-thousands-requires c κs =
     rw (difference-is c, toZ-ofZ (fits c)) (difference-most (t (start c)) 1 (start c .pre .1 .0) (i c) (low c) (high c))
 
 mul-changes : tie.Need-mul-changes Inv-loop μ-loop
@@ -159,8 +159,8 @@ fill-changes-spec =
     loop-holds
     add-value-of
     value-of-requires-2
-    sub-rounded
-    rounded-requires
+    sub-in-thousands
+    in-thousands-requires
     mul-changes
     shared-slice-copy-out-changes
     add-changes

@@ -63,7 +63,7 @@ shared-slice-copy-out-magnitude : tie.Need-shared-slice-copy-out-magnitude Inv-l
 shared-slice-copy-out-magnitude c = search needs
 
 magnitude-requires : tie.Need-magnitude-requires Inv-loop μ-loop
-magnitude-requires c κs = rw (flow-is c) (omega (arith, room c))
+magnitude-requires c κs = search needs
 
 add-size : tie.Need-add-size Inv-loop μ-loop
 add-size c = omega (arith, magnitude-is c, room (c .before))

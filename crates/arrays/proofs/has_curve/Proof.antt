@@ -4,10 +4,10 @@ use mathlib.Core.Path.{sym, ap}
 use borrow.Author.Needs.{needs}
 use lib.Dec.{eqb}
 use Rattle.laws.specs.Digits.{has}
 use Rattle.arrays.specs.Rooms.{curvedBy}
-use Rattle.text.proofs.Masks.{bit-shifted}
-use Rattle.text.proofs.report.has_curve.Statement.{statement}
-use Rattle.text.proofs.report.has_curve.Tie as tie
+use Rattle.laws.proofs.Digits.{bit-shifted}
+use Rattle.arrays.proofs.has_curve.Statement.{statement}
+use Rattle.arrays.proofs.has_curve.Tie as tie
 
 sub-result : tie.Need-sub-result
 sub-result c = search needs

@@ -2,11 +2,11 @@
 use borrow.Author.Needs.{needs}
 use mir.Facts.{toZ-ofZ}
 use Rattle.laws.proofs.Fits.{nonneg-of, test-not-below}
-use Rattle.text.proofs.Magnitudes.{magnitude-fits, NextNegated, next-negated}
-use Rattle.text.proofs.numbers.magnitude.Statement.{statement}
-use Rattle.text.proofs.numbers.magnitude.Tie as tie
-use Rattle.text.proofs.numbers.magnitude.Reads as reads
-use Rattle.text.proofs.numbers.magnitude.Lts as lts
+use Rattle.signed.proofs.Magnitudes.{magnitude-fits, NextNegated, next-negated}
+use Rattle.signed.proofs.magnitude.Statement.{statement}
+use Rattle.signed.proofs.magnitude.Tie as tie
+use Rattle.signed.proofs.magnitude.Reads as reads
+use Rattle.signed.proofs.magnitude.Lts as lts
 
 below : (c : lts.Then1 reads.Pre reads.Post) → NextNegated (c .before .args .z)
 below c = next-negated (c .before .args .z) (c .before .fits .z) (rw (toZ-ofZ (c .before .fits .z)) at (c .if1 .taken))
