@@ -58,7 +58,7 @@ pub fn feed(mut stdin: ChildStdin, input: &[u8], manner: Manner) -> Result<(), S
         Manner::InPieces(size) => size,
     };
     for (index, piece) in input.chunks(size).enumerate() {
-        match stdin.write_all(piece).and_then(|()| stdin.flush()) {
+        match stdin.write_all(piece) {
             Err(error) if error.kind() == ErrorKind::BrokenPipe => return Ok(()),
             written => written.map_err(|error| format!("its standard input: {error}"))?,
         }
