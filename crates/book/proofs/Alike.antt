@@ -33,13 +33,18 @@ use Rattle.arrays.specs.Rooms.{sizeBy, optionSizeBy, soFarBy}
 use Rattle.arrays.specs.Slots.{roomFor}
 use Rattle.arrays.proofs.Agree.{bind-ext}
 use Rattle.book.specs.declared.masks.Masks.{Masks}
-use Rattle.book.specs.Step.{stepped}
-use Rattle.book.specs.Take.{bodyAt, flowsFit, optionsFit}
+use Rattle.arrays.specs.Kept.{Arrays}
+use Rattle.book.specs.Step.{entered, stepped}
+use Rattle.book.specs.Take.{flowsFit, optionsFit}
 
 -- both a record, the same one, or both refused for the same cause
 pub data Alike : Checked Record → Checked Record → Type 0 where
   taken : {r : Record} → Alike (accepted r) (accepted r)
   turned : {q : Refusal} → {place other : ℕ} → Alike (refused q place) (refused q other)
+
+pub alike-entered : {x y : Checked Record} (a : Arrays) → Alike x y → entered y a ≡ entered x a
+alike-entered a taken = refl
+alike-entered a turned = refl
 
 pub alike-stepped : {x y : Checked Record} (next : ℕ) (m : Masks) → Alike x y → stepped y next m ≡ stepped x next m
 alike-stepped next m taken = refl
@@ -55,33 +60,20 @@ placed-alike at (accepted r) f = by (f r)
     by true = turned
     by false = taken
 
--- ---- the place, by its kind
+-- the place of a refusal may differ
+pub place-alike : (at other : ℕ) (x : Checked Record) → Alike (placed at x) (placed other x)
+unfolding placed
+place-alike at other (accepted r) = taken
+place-alike at other (refused q place) = turned
+
+-- ---- a body, by its kind
 
 -- what the table of kinds says of one kind, and its decoder
 pub record OfKind (kind bytes : ℕ) (curved : ℕ → Bool) (decodeIt : List ℕ → Checked Record) : Type 0 where
   pub long : bodyLength kind ≡ bytes
-  pub some : 0 < bytes
   pub decodes : (body : List ℕ) → decode curved kind body ≡ decodeIt body
 
-module _ (before : SoFar) (book : List ℕ) (at kind bytes : ℕ) (decodeIt : List ℕ → Checked Record) (of : OfKind kind bytes (before .curved) decodeIt)
-    (here : byte book at ≡ kind) where
-  pub record-alike : Alike (recordAt before book at) (bodyAt bytes decodeIt book at >>= (λ r. unless (overLimit before r) OverLimit 0 r))
-  unfolding recordAt admitted unknownKind cutShort bodyAt placed _>>=_ _>>_ unless
-  record-alike =
-      rw (here, of .long, of .decodes (take bytes (drop (suc at) book)), ne-eqb bytes 0 (λ e. omega (arith, of .some)))
-      (by (length book below suc at + bytes))
-    where
-      body : List ℕ
-      body = take bytes (drop (suc at) book)
-
-      by : (b : Bool) → Alike
-          (placed at (refuseIf false UnknownKind 0 >> (refuseIf b CutShort 0 >> (decodeIt body >>= (λ r. unless (overLimit before r) OverLimit 0 r)))))
-          ((if b then refused CutShort 0 else placed 0 (decodeIt body)) >>= (λ r. unless (overLimit before r) OverLimit 0 r))
-      by true = turned
-      by false = placed-alike at (decodeIt body) (overLimit before)
-
--- what is known of a decoded body is known of the body at a place
-pub body-known : {P : Record → Type 0} (bytes : ℕ) (decodeIt : List ℕ → Checked Record) (book : List ℕ) (at : ℕ)
-    → ((body : List ℕ) → Known P (decodeIt body)) → Known P (bodyAt bytes decodeIt book at)
-unfolding bodyAt
-body-known bytes decodeIt book at h = either (length book below suc at + bytes) gone (placed-known 0 (h _))
+pub admitted-alike : (before : SoFar) (kind : ℕ) (body : List ℕ) (decodeIt : List ℕ → Checked Record) → decode (before .curved) kind body ≡ decodeIt body
+    → Alike (placed 0 (admitted before kind body)) (placed 0 (decodeIt body) >>= (λ r. unless (overLimit before r) OverLimit 0 r))
+unfolding admitted
+admitted-alike before kind body decodeIt e = rw e (placed-alike 0 (decodeIt body) (overLimit before))
