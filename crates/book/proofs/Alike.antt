@@ -1,41 +1,19 @@
 -- What the step of a kind reads is what the paper reads at the place, but for the place of a refusal.
-use Prim.Native.Nat.{ℕ, suc, _+_, _*_, _-_, _≤_, _<_}
-use mathlib.Core.Bool.{Bool, true, false, not, _&&_}
+use Prim.Native.Nat.{ℕ}
+use mathlib.Core.Bool.{Bool, true, false}
 use mathlib.Core.List.{List}
-use mathlib.Core.Path.{_≡_, refl, sym, ap, ap₂, _∙_}
-use native.Mathlib.Nat.{add-zero}
-use native.Mathlib.Omega.{arith}
-use borrow.Author.Tests.{le-ltb, ne-eqb}
-use lib.IntN.{ℤ, pos, natAbs}
-use lib.ListN.{length, getD, take, drop}
-use Rattle.laws.specs.Tests.{if_then_else_, _is_, _below_, all}
-use Rattle.laws.specs.Lists.{section}
-use Rattle.laws.specs.Sums.{sum}
-use Rattle.laws.proofs.Tests.{all-of, all-ext}
-use Rattle.laws.proofs.Sums.{sum-none}
-use Rattle.laws.proofs.Sections.{section-at}
+use mathlib.Core.Path.{_≡_, refl}
 use Rattle.paper.specs.declared.Refusal.{Refusal}
-use Rattle.paper.specs.declared.Refusal.the-variants.{UnknownKind, CutShort, OverLimit}
-use Rattle.paper.specs.Scales.{billion}
-use Rattle.paper.specs.Ladder.{buckets}
-use Rattle.paper.specs.Flow.{scenarios, flow, adds, magnitude}
-use Rattle.paper.specs.Refusals.{Checked, accepted, refused, _>>=_, _>>_, unless, refuseIf}
-use Rattle.paper.specs.Records.{Record, currencies, currencyOf, bodyLength}
+use Rattle.paper.specs.declared.Refusal.the-variants.{OverLimit}
+use Rattle.paper.specs.Refusals.{Checked, accepted, refused, _>>=_, unless}
+use Rattle.paper.specs.Records.{Record, bodyLength}
 use Rattle.paper.specs.Ledger.{SoFar}
-use Rattle.paper.specs.TurnedDown.{unknownKind, cutShort, flowsOver, optionsOver, overLimit}
-use Rattle.paper.specs.Fields.{byte}
+use Rattle.paper.specs.TurnedDown.{overLimit}
 use Rattle.paper.specs.Decode.{decode}
-use Rattle.paper.specs.Book.{placed, admitted, recordAt}
-use Rattle.paper.proofs.Known.{Known, known, gone, known-of, either, placed-known}
-use Rattle.paper.proofs.KindOf.{FlowsOnly, AddOnOnly, CurveOnly}
-use Rattle.paper.specs.Sound.{Between}
-use Rattle.arrays.specs.Rooms.{sizeBy, optionSizeBy, soFarBy}
-use Rattle.arrays.specs.Slots.{roomFor}
-use Rattle.arrays.proofs.Agree.{bind-ext}
+use Rattle.paper.specs.Book.{placed, admitted}
 use Rattle.book.specs.declared.masks.Masks.{Masks}
 use Rattle.arrays.specs.Kept.{Arrays}
 use Rattle.book.specs.Step.{entered, stepped}
-use Rattle.book.specs.Take.{flowsFit, optionsFit}
 
 -- both a record, the same one, or both refused for the same cause
 pub data Alike : Checked Record → Checked Record → Type 0 where

@@ -1,16 +1,13 @@
 -- The table of kinds, row by row, and what the function of each kind makes of a step.
-use Prim.Native.Nat.{ℕ, zero, suc, _+_, _≤_, _<_}
-use mathlib.Core.Bool.{Bool, true, false}
+use Prim.Native.Nat.{ℕ}
+use mathlib.Core.Bool.{Bool}
 use mathlib.Core.List.{List}
-use mathlib.Core.Path.{_≡_, refl, sym, ap, subst, _∙_}
+use mathlib.Core.Path.{_≡_, refl, ap, _∙_}
 use borrow.Author.Tests.{ne-eqb}
 use lib.IntN.{ℤ}
-use lib.ListN.{length}
 use Rattle.paper.specs.declared.Refusal.the-variants.{UnknownKind}
-use Rattle.paper.specs.Refusals.{Checked, refused, _>>=_}
+use Rattle.paper.specs.Refusals.{Checked, _>>=_}
 use Rattle.paper.specs.Records.{Record, kinds, bodyLength}
-use Rattle.paper.specs.TurnedDown.{unknownKind}
-use Rattle.paper.specs.Fields.{byte}
 use Rattle.paper.specs.Decode.{decodeSingle, decodeCoupons, decodeFloating, decodeDeposit, decodeLoan, decodeTermDeposit, decodeOption, decodeCurve, decode}
 use Rattle.paper.specs.Book.{placed, admitted}
 use Rattle.paper.proofs.Known.{Known}

@@ -1,23 +1,16 @@
 -- The forms in which a function of a kind leaves its parts, said once for all kinds.
-use Prim.Native.Nat.{ℕ, suc, _+_, _*_, _-_, _≤_, _<_}
-use mathlib.Core.Bool.{Bool, false}
+use Prim.Native.Nat.{ℕ, _+_, _*_, _-_, _≤_}
+use mathlib.Core.Bool.{false}
 use mathlib.Core.List.{List, _++_}
-use mathlib.Core.Path.{_≡_, refl, sym, ap, ap₂, subst, _∙_}
-use native.Mathlib.Numerals.{add-one}
+use mathlib.Core.Path.{_≡_}
 use native.Mathlib.Omega.{arith}
-use borrow.Author.Tests.{lt-ltb, le-ltb}
 use lib.IntN.{ℤ, pos, natAbs}
-use lib.ListN.{length, getD, take, drop}
-use Rattle.laws.specs.Tests.{if_then_else_, _below_}
+use lib.ListN.{length, take, drop}
 use Rattle.laws.specs.Lists.{section, splice}
 use Rattle.laws.proofs.Sections.{length-section, section-all}
-use Rattle.paper.specs.declared.Refusal.the-variants.{CutShort}
 use Rattle.paper.specs.Scales.{billion}
-use Rattle.paper.specs.Flow.{scenarios}
-use Rattle.paper.specs.Refusals.{Checked, accepted, refused}
+use Rattle.paper.specs.Refusals.{Checked, accepted}
 use Rattle.paper.specs.Records.{Record, currencies, currencyOf, isCurve}
-use Rattle.paper.specs.Ledger.{sectionSize}
-use Rattle.paper.specs.Book.{placed}
 use Rattle.posting.specs.declared.Slotted.{Slotted}
 use Rattle.posting.specs.Parts.{FlowParts}
 use Rattle.slotting.specs.Parts.{OptionParts, FlowsSlotted, OptionSlotted}

@@ -1,17 +1,15 @@
 -- What stands at a place: the table of body lengths, and what each answer says of the paper's tests.
 use Prim.Native.Nat.{ℕ, zero, suc, _+_, _≤_, _<_}
-use mathlib.Core.Bool.{Bool, true, false}
 use mathlib.Core.List.{List}
 use mathlib.Core.Path.{_≡_, refl}
 use native.Mathlib.Omega.{arith}
 use borrow.Author.Tests.{le-leb, lt-leb, lt-ltb, le-ltb, ne-eqb}
 use lib.ListN.{length}
-use Rattle.laws.specs.Tests.{if_then_else_, _is_, _upTo_, _below_}
+use Rattle.laws.specs.Tests.{_is_}
 use Rattle.paper.specs.Records.{kinds, bodyLength}
 use Rattle.paper.specs.TurnedDown.{unknownKind, cutShort}
 use Rattle.paper.specs.Fields.{byte}
 use Rattle.paper.specs.Book.{nextAt}
-use Rattle.book.specs.declared.reader.Found.{Found}
 use Rattle.book.specs.declared.reader.Found.the-variants.{End, UnknownKind, CutShort, Record}
 use Rattle.book.specs.Reader.{wholeAt, standsAt}
 

@@ -1,6 +1,6 @@
 -- What the function of a kind took is a step of the walk: the arrays that its records do not touch stay as they are.
-use Prim.Native.Nat.{ℕ, suc, _+_, _*_, _-_, _/_, _%_, _≤_, _<_}
-use mathlib.Core.Bool.{Bool, true, false}
+use Prim.Native.Nat.{ℕ, suc, _+_, _*_, _-_, _/_, _%_}
+use mathlib.Core.Bool.{Bool, false}
 use mathlib.Core.List.{List}
 use mathlib.Core.Path.{_≡_, refl, sym, ap, subst, _∙_}
 use native.Mathlib.Nat.{add-zero}
@@ -8,7 +8,6 @@ use lib.IntN.{ℤ, pos, natAbs, _+ℤ_, +ℤ-idr}
 use Rattle.laws.specs.Lists.{joined, section, splice}
 use Rattle.laws.proofs.Joined.{joined-none}
 use Rattle.laws.proofs.Sections.{splice-same}
-use Rattle.paper.specs.declared.Refusal.{Refusal}
 use Rattle.paper.specs.declared.Refusal.the-variants.{OverLimit}
 use Rattle.paper.specs.Ladder.{buckets}
 use Rattle.paper.specs.Flow.{scenarios, flow, adds, gives, magnitude}
@@ -27,7 +26,7 @@ use Rattle.arrays.proofs.Agree.{bind-ext}
 use Rattle.arrays.proofs.More.{same-arrays}
 use Rattle.book.specs.declared.masks.Masks.{Masks}
 use Rattle.book.specs.declared.step.Step.{Step}
-use Rattle.book.specs.Step.{entered, stepped, Stepped, Holding}
+use Rattle.book.specs.Step.{entered, Stepped, Holding}
 use Rattle.book.specs.Take.{flowsFit, optionsFit, intoPart, FlowsTaken, OptionTaken, CurveTaken}
 use Rattle.book.proofs.Alike.{Alike, taken, turned, alike-stepped, admitted-alike}
 use Rattle.book.proofs.Room.{no-magnitude, flows-limit, options-limit, curve-limit}

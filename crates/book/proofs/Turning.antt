@@ -1,8 +1,8 @@
 -- A turn of the walk: what the reader finds at a place is what the paper's tests say of it.
-use Prim.Native.Nat.{ℕ, suc, _+_, _-_, _≤_, _<_}
+use Prim.Native.Nat.{ℕ, suc, _+_, _-_, _≤_}
 use mathlib.Core.Bool.{Bool, true, false}
 use mathlib.Core.List.{List}
-use mathlib.Core.Path.{_≡_, refl, sym, ap, ap₂, subst, _∙_}
+use mathlib.Core.Path.{_≡_, refl, sym, ap, _∙_}
 use native.Mathlib.Omega.{arith}
 use borrow.Author.Tests.{ltb-false}
 use lib.ListN.{length, take, drop}
@@ -22,7 +22,7 @@ use Rattle.book.specs.declared.step.Step.the-variants as step
 use Rattle.book.specs.declared.reader.Found.{Found}
 use Rattle.book.specs.declared.reader.Found.the-variants as found
 use Rattle.book.specs.Reader.{standsAt}
-use Rattle.book.specs.Step.{entered, stepped, Stepped, Turned}
+use Rattle.book.specs.Step.{stepped, Stepped, Turned}
 use Rattle.book.proofs.Alike.{place-alike, alike-entered, alike-stepped}
 
 -- ---- an answer of the reader, back to the tests

@@ -1,5 +1,5 @@
 -- What the walk answers: at the end of the book, and at a refused record.
-use Prim.Native.Nat.{ℕ, _+_, _-_, _≤_, _<_}
+use Prim.Native.Nat.{ℕ, _≤_, _<_}
 use mathlib.Core.List.{List}
 use mathlib.Core.Path.{_≡_, sym, ap₂, subst, _∙_}
 use native.Mathlib.Omega.{arith}
@@ -9,13 +9,12 @@ use Rattle.laws.specs.Tests.{_upTo_}
 use Rattle.paper.specs.declared.Refusal.{Refusal}
 use Rattle.paper.specs.Refusals.{Checked, refused}
 use Rattle.paper.specs.Records.{Record}
-use Rattle.paper.specs.Book.{recordAt, nextAt, walk}
+use Rattle.paper.specs.Book.{recordAt, nextAt}
 use Rattle.arrays.specs.Rooms.{soFarBy}
 use Rattle.arrays.specs.Kept.{Arrays}
 use Rattle.book.specs.declared.masks.Masks.{Masks}
 use Rattle.book.specs.declared.step.Step.{Step}
 use Rattle.book.specs.declared.step.Step.the-variants as step
-use Rattle.book.specs.declared.walked.Walked.{Walked}
 use Rattle.book.specs.declared.walked.Walked.the-variants as walked
 use Rattle.book.specs.Step.{Stepped, Turned}
 use Rattle.book.specs.Walked.{AllKept, Walks}

@@ -1,11 +1,10 @@
 -- `take_curve`: refused by its decoder, or its rates filled in.
-use Prim.Native.Nat.{ℕ, _+_, _-_}
+use Prim.Native.Nat.{ℕ}
 use mathlib.Core.Bool.{Bool}
 use mathlib.Core.List.{List}
 use mathlib.Core.Path.{_≡_, refl, sym, ap, _∙_}
 use native.Mathlib.Omega.{arith}
 use borrow.Author.Needs.{needs}
-use lib.ListN.{take, drop}
 use Rattle.paper.specs.Refusals.{accepted}
 use Rattle.paper.specs.Ladder.{buckets}
 use Rattle.paper.specs.Records.{curve, currencies}
@@ -22,8 +21,6 @@ use Rattle.book.proofs.Returned.{part-length}
 use Rattle.book.proofs.Curving.{rates-good, base-is, curve-returned, curve-refused}
 use Rattle.book.proofs.curves.take_curve.Statement.{statement}
 use Rattle.book.proofs.curves.take_curve.Tie as tie
-use Rattle.book.proofs.curves.take_curve.Reads as reads
-use Rattle.book.proofs.curves.take_curve.Lts as lts
 
 -- what is known once the body has been read
 module _ (c : tie.After-known-told2) where

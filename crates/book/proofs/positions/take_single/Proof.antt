@@ -1,11 +1,9 @@
 -- `take_single`: refused by its decoder, or slotted; each by the law of its form.
-use Prim.Native.Nat.{ℕ, _+_, _-_, _≤_}
 use mathlib.Core.Bool.{false}
 use mathlib.Core.Path.{_≡_, refl, sym, ap, _∙_}
 use native.Mathlib.Omega.{arith}
 use borrow.Author.Needs.{needs}
-use lib.ListN.{take, drop}
-use Rattle.paper.specs.Refusals.{accepted, refused}
+use Rattle.paper.specs.Refusals.{accepted}
 use Rattle.paper.specs.Records.{flows, currencies, currencyOf, isCurve}
 use Rattle.paper.specs.Decode.{decodeSingle}
 use Rattle.paper.proofs.Known.{known-of, placed-known}
@@ -18,8 +16,6 @@ use Rattle.book.proofs.Taking.{flows-refused}
 use Rattle.book.proofs.Returned.{flow-parts, flows-returned}
 use Rattle.book.proofs.positions.take_single.Statement.{statement}
 use Rattle.book.proofs.positions.take_single.Tie as tie
-use Rattle.book.proofs.positions.take_single.Reads as reads
-use Rattle.book.proofs.positions.take_single.Lts as lts
 
 -- what is known once the body has been read
 module _ (c : tie.After-known-told2) where

@@ -1,6 +1,4 @@
 -- `take_term_deposit`: refused by its decoder, or slotted; each by the law of its form.
-use Prim.Native.Nat.{_+_, _-_}
-use lib.ListN.{take, drop}
 use mathlib.Core.Bool.{false}
 use mathlib.Core.Path.{_≡_, refl, sym, ap, _∙_}
 use native.Mathlib.Omega.{arith}

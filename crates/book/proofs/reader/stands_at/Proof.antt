@@ -1,5 +1,4 @@
 -- `stands_at`: the end, no such kind, or a row of the table of kinds.
-use Prim.Native.Nat.{_<_}
 use mathlib.Core.Path.{refl, _∙_}
 use native.Mathlib.Omega.{arith}
 use borrow.Author.Needs.{needs}

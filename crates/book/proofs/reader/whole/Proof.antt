@@ -1,5 +1,4 @@
 -- `whole`: cut short, or not.
-use Prim.Native.Nat.{_+_, _≤_, _<_}
 use native.Mathlib.Numerals.{add-one}
 use native.Mathlib.Omega.{arith}
 use borrow.Author.Needs.{needs}

@@ -1,15 +1,12 @@
 -- `step`: the four answers of the reader.
-use Prim.Native.Nat.{ℕ, _+_, _-_, _≤_, _<_}
+use Prim.Native.Nat.{_-_, _≤_}
 use mathlib.Core.Path.{_≡_, sym, _∙_}
-use native.Mathlib.Omega.{arith}
 use borrow.Author.Needs.{needs}
 use lib.ListN.{length, take, drop}
 use Rattle.paper.specs.Records.{bodyLength}
 use Rattle.book.proofs.Turning.{turn-end, turn-unknown, turn-cut, turn-record, in-book}
 use Rattle.book.proofs.records.step.Statement.{statement}
 use Rattle.book.proofs.records.step.Tie as tie
-use Rattle.book.proofs.records.step.Reads as reads
-use Rattle.book.proofs.records.step.Lts as lts
 
 -- where the record lies
 module _ (c : tie.After-known-told) where

@@ -5,8 +5,6 @@ use Rattle.paper.proofs.KindOf.{single-flows, coupons-flows, floating-flows, de
 use Rattle.book.proofs.Dispatch.{row-1, row-2, row-3, row-4, row-5, row-6, row-7, row-8, flows-kind, option-kind, curve-kind, row-long, flow-arrays, option-arrays, rate-arrays, unknown-body}
 use Rattle.book.proofs.records.take_body.Statement.{statement}
 use Rattle.book.proofs.records.take_body.Tie as tie
-use Rattle.book.proofs.records.take_body.Reads as reads
-use Rattle.book.proofs.records.take_body.Lts as lts
 
 take-single-requires : tie.Need-take-single-requires
 take-single-requires c κs = let s = c .before .before .before .before .before .before in (row-long (row-1 (λ _. false)) (c .before .before .match .keys1) (s .pre .0), flow-arrays (s .pre .1))
