@@ -1,3 +1,6 @@
+-- the reader
+pub mod Standing
+pub mod Reading
 -- the arrays and masks of the records kept, and the walk's invariant
 pub mod Holding
 pub mod Sets
@@ -8,6 +11,7 @@ pub mod Alike
 pub mod Room
 pub mod Stepping
 pub mod Dispatch
+pub mod Turning
 pub mod Curving
 pub mod Walking
 pub mod Walks

@@ -1,44 +1,23 @@
 -- The forms in which a function of a kind leaves its parts, said once for all kinds.
-use Prim.Native.Nat.{ℕ, suc, _+_, _*_, _-_, _≤_, _<_}
-use mathlib.Core.Bool.{Bool, false}
+use Prim.Native.Nat.{ℕ, _+_, _*_, _-_, _≤_}
+use mathlib.Core.Bool.{false}
 use mathlib.Core.List.{List, _++_}
-use mathlib.Core.Path.{_≡_, refl, sym, ap, ap₂, subst, _∙_}
-use native.Mathlib.Numerals.{add-one}
+use mathlib.Core.Path.{_≡_}
 use native.Mathlib.Omega.{arith}
-use borrow.Author.Tests.{lt-ltb, le-ltb}
 use lib.IntN.{ℤ, pos, natAbs}
-use lib.ListN.{length, getD, take, drop}
-use Rattle.laws.specs.Tests.{if_then_else_, _below_}
+use lib.ListN.{length, take, drop}
 use Rattle.laws.specs.Lists.{section, splice}
 use Rattle.laws.proofs.Sections.{length-section, section-all}
-use Rattle.paper.specs.declared.Refusal.the-variants.{CutShort}
 use Rattle.paper.specs.Scales.{billion}
-use Rattle.paper.specs.Flow.{scenarios}
-use Rattle.paper.specs.Refusals.{Checked, accepted, refused}
+use Rattle.paper.specs.Refusals.{Checked, accepted}
 use Rattle.paper.specs.Records.{Record, currencies, currencyOf, isCurve}
-use Rattle.paper.specs.Ledger.{sectionSize}
-use Rattle.paper.specs.Book.{placed}
 use Rattle.posting.specs.declared.Slotted.{Slotted}
 use Rattle.posting.specs.Parts.{FlowParts}
 use Rattle.slotting.specs.Parts.{OptionParts, FlowsSlotted, OptionSlotted}
 use Rattle.book.specs.declared.masks.Masks.{Masks}
 use Rattle.book.specs.declared.step.Step.{Step}
-use Rattle.book.specs.Take.{bodyAt, FlowsTaken, OptionTaken, slottedStep, FlowArrays, OptionArrays}
+use Rattle.book.specs.Take.{FlowsTaken, OptionTaken, slottedStep, FlowArrays, OptionArrays}
 use Rattle.book.proofs.Taking.{flows-taken, option-taken}
-
--- ---- the body at a place, as the code takes it: from at + 1 up to at + (n + 1)
-
-module _ (n : ℕ) (decodeIt : List ℕ → Checked Record) (book : List ℕ) (at : ℕ) where
-  pub body-cut : length book < at + suc n → bodyAt n decodeIt book at ≡ refused CutShort 0
-  unfolding bodyAt
-  body-cut h = let l : length book < suc at + n = omega arith in rw (lt-ltb _ _ l)
-
-  pub body-whole : at + suc n ≤ length book → placed 0 (decodeIt (take (at + suc n - (at + 1)) (drop (at + 1) book))) ≡ bodyAt n decodeIt book at
-  unfolding bodyAt
-  body-whole h =
-      let l : suc at + n ≤ length book = omega arith in
-      let long : at + suc n - (at + 1) ≡ n = omega arith in
-      rw (long, add-one at, le-ltb _ _ l)
 
 -- ---- a part of an array, as the code lends it: from width * part up to width * part + width
 

@@ -1,6 +1,6 @@
 -- What the function of a kind took is a step of the walk: the arrays that its records do not touch stay as they are.
-use Prim.Native.Nat.{ℕ, suc, _+_, _*_, _-_, _/_, _%_, _≤_, _<_}
-use mathlib.Core.Bool.{Bool, true, false}
+use Prim.Native.Nat.{ℕ, suc, _+_, _*_, _-_, _/_, _%_}
+use mathlib.Core.Bool.{Bool, false}
 use mathlib.Core.List.{List}
 use mathlib.Core.Path.{_≡_, refl, sym, ap, subst, _∙_}
 use native.Mathlib.Nat.{add-zero}
@@ -8,7 +8,6 @@ use lib.IntN.{ℤ, pos, natAbs, _+ℤ_, +ℤ-idr}
 use Rattle.laws.specs.Lists.{joined, section, splice}
 use Rattle.laws.proofs.Joined.{joined-none}
 use Rattle.laws.proofs.Sections.{splice-same}
-use Rattle.paper.specs.declared.Refusal.{Refusal}
 use Rattle.paper.specs.declared.Refusal.the-variants.{OverLimit}
 use Rattle.paper.specs.Ladder.{buckets}
 use Rattle.paper.specs.Flow.{scenarios, flow, adds, gives, magnitude}
@@ -16,9 +15,9 @@ use Rattle.paper.specs.Refusals.{Checked, accepted, refused, _>>=_, unless}
 use Rattle.paper.specs.Records.{Record, currencyOf}
 use Rattle.paper.specs.Ledger.{sectionSize, SoFar}
 use Rattle.paper.specs.TurnedDown.{overLimit}
-use Rattle.paper.specs.Fields.{byte}
-use Rattle.paper.specs.Book.{recordAt}
-use Rattle.paper.proofs.Known.{Known, known-of, chain, unless-known}
+use Rattle.paper.specs.Decode.{decode}
+use Rattle.paper.specs.Book.{placed, admitted}
+use Rattle.paper.proofs.Known.{Known, known-of, chain, unless-known, placed-known}
 use Rattle.paper.proofs.KindOf.{FlowsOnly, AddOnOnly, CurveOnly}
 use Rattle.arrays.specs.Rooms.{soFarBy, curvedBy}
 use Rattle.arrays.specs.Slots.{withFlows, withSizes, withAddOns, withOptionSizes}
@@ -27,9 +26,9 @@ use Rattle.arrays.proofs.Agree.{bind-ext}
 use Rattle.arrays.proofs.More.{same-arrays}
 use Rattle.book.specs.declared.masks.Masks.{Masks}
 use Rattle.book.specs.declared.step.Step.{Step}
-use Rattle.book.specs.Step.{entered, stepped, Stepped, Holding}
-use Rattle.book.specs.Take.{bodyAt, flowsFit, optionsFit, intoPart, FlowsTaken, OptionTaken, CurveTaken}
-use Rattle.book.proofs.Alike.{Alike, taken, turned, alike-stepped, OfKind, record-alike, body-known}
+use Rattle.book.specs.Step.{entered, Stepped, Holding}
+use Rattle.book.specs.Take.{flowsFit, optionsFit, intoPart, FlowsTaken, OptionTaken, CurveTaken}
+use Rattle.book.proofs.Alike.{Alike, taken, turned, alike-stepped, admitted-alike}
 use Rattle.book.proofs.Room.{no-magnitude, flows-limit, options-limit, curve-limit}
 
 -- ---- a part with nothing joined stays
@@ -97,24 +96,27 @@ module _ (a : Arrays) where
 
 -- ---- steps
 
-module _ (m : Masks) (a : Arrays) (holding : Holding m a) (book : List ℕ) (at kind bytes : ℕ) (decodeIt : List ℕ → Checked Record)
-    (of : OfKind kind bytes (curvedBy (m .curved)) decodeIt) (here : byte book at ≡ kind) where
+module _ (m : Masks) (a : Arrays) (holding : Holding m a) (kind : ℕ) (body : List ℕ) (decodeIt : List ℕ → Checked Record)
+    (decodes : decode (curvedBy (m .curved)) kind body ≡ decodeIt body) where
   abbrev before : SoFar
   before = soFarBy (m .curved) (a .sizes) (a .optionSizes)
 
   abbrev read : Checked Record
-  read = bodyAt bytes decodeIt book at
+  read = placed 0 (decodeIt body)
+
+  abbrev paper : Checked Record
+  paper = placed 0 (admitted before kind body)
 
   -- what the kind's own test of 14 leaves is what the paper's leaves
-  alike : (fit : Checked Record) → (read >>= (λ r. unless (overLimit before r) OverLimit 0 r)) ≡ fit → Alike (recordAt before book at) fit
-  alike fit e = subst (Alike (recordAt before book at)) e (record-alike before book at kind bytes decodeIt of here)
+  alike : (fit : Checked Record) → (read >>= (λ r. unless (overLimit before r) OverLimit 0 r)) ≡ fit → Alike paper fit
+  alike fit e = subst (Alike paper) e (admitted-alike before kind body decodeIt decodes)
 
-  pub flows-step : ((body : List ℕ) → Known FlowsOnly (decodeIt body)) → (next : ℕ) {answer : Step} {ledger' : List ℤ} {sizes' : List ℕ}
+  pub flows-step : ((any : List ℕ) → Known FlowsOnly (decodeIt any)) → (next : ℕ) {answer : Step} {ledger' : List ℤ} {sizes' : List ℕ}
       → FlowsTaken read next m (a .ledger) (a .sizes) answer ledger' sizes'
-      → Stepped (recordAt before book at) next m a answer (record { ledger = ledger'; rates = a .rates; addOns = a .addOns; sizes = sizes'; optionSizes = a .optionSizes })
+      → Stepped paper next m a answer (record { ledger = ledger'; rates = a .rates; addOns = a .addOns; sizes = sizes'; optionSizes = a .optionSizes })
   unfolding flowsFit
   flows-step flowing next t =
-      let only = body-known bytes decodeIt book at flowing in
+      let only = placed-known 0 (flowing body) in
       let same = alike (flowsFit (a .sizes) read) (bind-ext read _ _ (λ r e. ap (λ (b : Bool). unless b OverLimit 0 r)
       (flows-limit (m .curved) (a .sizes) (a .optionSizes) r (holding .sizes-small) (holding .optionSizes-small) (known-of only r e)))) in
       record {
@@ -122,12 +124,12 @@ module _ (m : Masks) (a : Arrays) (holding : Holding m a) (book : List ℕ) (at 
         arrays = same-arrays (t .cells-are) refl refl (t .sizes-are) refl ∙ flows-enter a same (fit-known _ only);
       }
 
-  pub option-step : ((body : List ℕ) → Known AddOnOnly (decodeIt body)) → (next : ℕ) {answer : Step} {sizes' : List ℕ} {addOns' : List ℤ}
+  pub option-step : ((any : List ℕ) → Known AddOnOnly (decodeIt any)) → (next : ℕ) {answer : Step} {sizes' : List ℕ} {addOns' : List ℤ}
       → OptionTaken read next m (a .optionSizes) (a .addOns) answer sizes' addOns'
-      → Stepped (recordAt before book at) next m a answer (record { ledger = a .ledger; rates = a .rates; addOns = addOns'; sizes = a .sizes; optionSizes = sizes' })
+      → Stepped paper next m a answer (record { ledger = a .ledger; rates = a .rates; addOns = addOns'; sizes = a .sizes; optionSizes = sizes' })
   unfolding optionsFit
   option-step adding next t =
-      let only = body-known bytes decodeIt book at adding in
+      let only = placed-known 0 (adding body) in
       let same = alike (optionsFit (a .optionSizes) read) (bind-ext read _ _ (λ r e. ap (λ (b : Bool). unless b OverLimit 0 r)
       (options-limit (m .curved) (a .sizes) (a .optionSizes) r (holding .sizes-small) (holding .optionSizes-small) (known-of only r e)))) in
       record {
@@ -136,12 +138,12 @@ module _ (m : Masks) (a : Arrays) (holding : Holding m a) (book : List ℕ) (at 
       }
 
   -- a curve passes 14
-  pub curve-step : ((body : List ℕ) → Known CurveOnly (decodeIt body)) → (next : ℕ) {answer : Step} {rates' : List ℤ}
+  pub curve-step : ((any : List ℕ) → Known CurveOnly (decodeIt any)) → (next : ℕ) {answer : Step} {rates' : List ℤ}
       → CurveTaken read next m (a .rates) answer rates'
-      → Stepped (recordAt before book at) next m a answer (record { ledger = a .ledger; rates = rates'; addOns = a .addOns; sizes = a .sizes; optionSizes = a .optionSizes })
+      → Stepped paper next m a answer (record { ledger = a .ledger; rates = rates'; addOns = a .addOns; sizes = a .sizes; optionSizes = a .optionSizes })
   unfolding _>>=_ unless
   curve-step curving next t =
-      let only = body-known bytes decodeIt book at curving in
+      let only = placed-known 0 (curving body) in
       let same = alike read (passes read (λ r e. curve-limit (m .curved) (a .sizes) (a .optionSizes) r (holding .sizes-small) (holding .optionSizes-small) (known-of only r e))) in
       record {
         answered = t .answered ∙ alike-stepped next m same;

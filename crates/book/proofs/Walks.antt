@@ -1,22 +1,25 @@
 -- What the walk answers: at the end of the book, and at a refused record.
-use Prim.Native.Nat.{ℕ, _+_, _-_, _≤_, _<_}
+use Prim.Native.Nat.{ℕ, _≤_, _<_}
 use mathlib.Core.List.{List}
 use mathlib.Core.Path.{_≡_, sym, ap₂, subst, _∙_}
 use native.Mathlib.Omega.{arith}
+use borrow.Author.Tests.{leb-true, leb-false}
 use lib.ListN.{length}
+use Rattle.laws.specs.Tests.{_upTo_}
 use Rattle.paper.specs.declared.Refusal.{Refusal}
-use Rattle.paper.specs.Refusals.{refused}
-use Rattle.paper.specs.Book.{recordAt, nextAt, walk}
+use Rattle.paper.specs.Refusals.{Checked, refused}
+use Rattle.paper.specs.Records.{Record}
+use Rattle.paper.specs.Book.{recordAt, nextAt}
 use Rattle.arrays.specs.Rooms.{soFarBy}
 use Rattle.arrays.specs.Kept.{Arrays}
 use Rattle.book.specs.declared.masks.Masks.{Masks}
 use Rattle.book.specs.declared.step.Step.{Step}
 use Rattle.book.specs.declared.step.Step.the-variants as step
-use Rattle.book.specs.declared.walked.Walked.{Walked}
 use Rattle.book.specs.declared.walked.Walked.the-variants as walked
-use Rattle.book.specs.Step.{Stepped}
+use Rattle.book.specs.Step.{Stepped, Turned}
 use Rattle.book.specs.Walked.{AllKept, Walks}
-use Rattle.book.proofs.Walking.{Walking, on-read, ended, stops}
+use Rattle.book.proofs.Walking.{Walking, on-read, ended, stops, goes-on}
+use Rattle.book.proofs.Turning.{is-over, is-step}
 
 all-once : (m n : Masks) → walked.All m ≡ walked.All n → m ≡ n
 all-once m n e = cc
@@ -31,21 +34,44 @@ module _ (book : List ℕ) (a : Arrays) (at : ℕ) (m : Masks) (w : Walking book
   all-kept : length book ≤ at → AllKept book m a
   all-kept l = record { kept = w .kept; walked = ended book a at m w l; arrays = w .arrays; used-is = w .masks .used-is; curved-is = w .masks .curved-is }
 
-  pub walks-all : length book ≤ at → Walks book (walked.All m) a
-  walks-all l = record {
-    all = λ n e. subst (λ (k : Masks). AllKept book k a) (all-once m n e) (all-kept l);
-    stopped = λ q place e. all-refused m q place e;
-  }
+  -- a turn at this place, its answer and what it leaves
+  module _ (answer : Step) (a' : Arrays) (t : Turned (length book upTo at) (recordAt (soFarBy (m .curved) (a .sizes) (a .optionSizes)) book at) (nextAt book at) m a answer a') where
+    abbrev read : Checked Record
+    read = recordAt (soFarBy (m .curved) (a .sizes) (a .optionSizes)) book at
 
-  module _ (l : at < length book) (answer : Step) (a' : Arrays)
-      (s : Stepped (recordAt (soFarBy (m .curved) (a .sizes) (a .optionSizes)) book at) (nextAt book at) m a answer a') where
+    pub walks-ended : answer ≡ step.End → Walks book (walked.All m) a'
+    walks-ended e =
+        let over = is-over read (nextAt book at) m a answer a' (length book upTo at) t e in
+        let kept : AllKept book m a' = subst (AllKept book m) (sym (over .1)) (all-kept (leb-true (length book) at (over .0))) in
+        record {
+          all = λ n f. subst (λ (k : Masks). AllKept book k a') (all-once m n f) kept;
+          stopped = λ q place f. all-refused m q place f;
+        }
+
+    -- where the book is not over, a record was read
+    within : (answer ≡ step.End → ⊥) → (at < length book) × Stepped read (nextAt book at) m a answer a'
+    within f = let s = is-step read (nextAt book at) m a answer a' (length book upTo at) t f in (leb-false (length book) at (s .0), s .1)
+
+    not-end : (q : Refusal) → answer ≡ step.Refused q → answer ≡ step.End → ⊥
+    not-end q e f = let z : _≡_ {A = ℕ} 0 1 = cc in absurd (omega arith)
+
+    still-on : (next : ℕ) (n : Masks) → answer ≡ step.On next n → answer ≡ step.End → ⊥
+    still-on next n e f = let z : _≡_ {A = ℕ} 0 1 = cc in absurd (omega arith)
+
     pub walks-stopped : (q : Refusal) → answer ≡ step.Refused q → Walks book (walked.Refused q at) a'
-    walks-stopped q e = record {
-      all = λ n f. all-refused n q at (sym f);
-      stopped = λ p place f. let same = refused-once q p at place f in stops book a at m w l answer a' s q e ∙ ap₂ refused (same .0) (same .1);
-    }
+    walks-stopped q e =
+        let s = within (not-end q e) in
+        record {
+          all = λ n f. all-refused n q at (sym f);
+          stopped = λ p place f. let same = refused-once q p at place f in stops book a at m w (s .0) answer a' (s .1) q e ∙ ap₂ refused (same .0) (same .1);
+        }
+
+    pub walks-on : (next : ℕ) (n : Masks) → answer ≡ step.On next n → Walking book a' next n
+    walks-on next n e = let s = within (still-on next n e) in goes-on book a at m w (s .0) answer a' (s .1) next n e
 
     -- a record is at least its kind's byte
-    pub forward : (next : ℕ) (n : Masks) → answer ≡ step.On next n → at < next
+    pub forward : (next : ℕ) (n : Masks) → answer ≡ step.On next n → (at < length book) × (at < next)
     unfolding nextAt
-    forward next n e = let f = on-read (recordAt (soFarBy (m .curved) (a .sizes) (a .optionSizes)) book at) (nextAt book at) next m n (sym e ∙ s .answered) in omega (arith, f .2)
+    forward next n e =
+        let s = within (still-on next n e) in
+        let f = on-read read (nextAt book at) next m n (sym e ∙ s .1 .answered) in (s .0, omega (arith, f .2))

@@ -1,6 +1,6 @@
 -- What a step of the walk answers and leaves, by what was read at its place.
-use Prim.Native.Nat.{ℕ, suc, _+_, _*_, _-_, _^_, _≤_, _<_}
-use mathlib.Core.Bool.{false, not, _&&_}
+use Prim.Native.Nat.{ℕ, suc, _*_, _-_, _^_, _≤_, _<_}
+use mathlib.Core.Bool.{Bool, false, not, _&&_}
 use mathlib.Core.List.{List}
 use mathlib.Core.Path.{_≡_}
 use lib.Bits.{bitOr}
@@ -18,7 +18,7 @@ use Rattle.arrays.specs.Rooms.{curvedBy}
 use Rattle.arrays.specs.Kept.{Arrays, withRecord}
 use Rattle.book.specs.declared.masks.Masks.{Masks}
 use Rattle.book.specs.declared.step.Step.{Step}
-use Rattle.book.specs.declared.step.Step.the-variants.{On, Refused}
+use Rattle.book.specs.declared.step.Step.the-variants.{End, On, Refused}
 
 -- a currency joined to a set
 abbrev pub withCurrency : ℕ → ℕ → ℕ
@@ -50,6 +50,11 @@ stepped (refused q place) next m = Refused q
 pub record Stepped (read : Checked Record) (next : ℕ) (m : Masks) (a : Arrays) (answer : Step) (a' : Arrays) : Type 0 where
   pub answered : answer ≡ stepped read next m
   pub arrays : a' ≡ entered read a
+
+-- the same at a place where the book may be over: there nothing changes
+pub record Turned (over : Bool) (read : Checked Record) (next : ℕ) (m : Masks) (a : Arrays) (answer : Step) (a' : Arrays) : Type 0 where
+  pub answered : answer ≡ (if over then End else stepped read next m)
+  pub arrays : a' ≡ (if over then a else entered read a)
 
 -- what a step may rely on: lengths, sums and cells at or below a billion, nil rates where there is no curve
 pub record Holding (m : Masks) (a : Arrays) : Type 0 where

@@ -1,19 +1,17 @@
 -- What the functions of each kind answer and leave. A refusal's place is the record's first byte, so it does not matter here.
-use Prim.Native.Nat.{ℕ, suc, _+_, _*_, _-_, _≤_}
+use Prim.Native.Nat.{ℕ, suc, _*_, _-_, _≤_}
 use mathlib.Core.Bool.{false, not}
 use mathlib.Core.List.{List}
 use mathlib.Core.Path.{_≡_}
 use lib.IntN.{ℤ, pos, natAbs}
-use lib.ListN.{length, getD, take, drop, replicate}
-use Rattle.laws.specs.Tests.{if_then_else_, _below_}
+use lib.ListN.{length, getD, replicate}
 use Rattle.laws.specs.Lists.{section}
-use Rattle.paper.specs.declared.Refusal.the-variants.{CutShort, OverLimit}
+use Rattle.paper.specs.declared.Refusal.the-variants.{OverLimit}
 use Rattle.paper.specs.Scales.{billion}
 use Rattle.paper.specs.Flow.{scenarios, adds, magnitude}
 use Rattle.paper.specs.Refusals.{Checked, accepted, refused, _>>=_, unless}
 use Rattle.paper.specs.Records.{Record, currencies, currencyOf}
 use Rattle.paper.specs.Ledger.{sectionSize, cells}
-use Rattle.paper.specs.Book.{placed}
 use Rattle.arrays.specs.Rooms.{curvedBy}
 use Rattle.arrays.specs.Slots.{withFlows, withSizes, withAddOns, withOptionSizes, roomFor}
 use Rattle.arrays.specs.Kept.{inPart, withRates}
@@ -23,11 +21,6 @@ use Rattle.book.specs.declared.masks.Masks.{Masks}
 use Rattle.book.specs.declared.step.Step.{Step}
 use Rattle.book.specs.declared.step.Step.the-variants.{On, Refused}
 use Rattle.book.specs.Step.{withCurrency, stepped}
-
--- a body of so many bytes at a place: cut short, or what its decoder makes of it
-unfoldable pub bodyAt : ℕ → (List ℕ → Checked Record) → List ℕ → ℕ → Checked Record
-bodyAt bytes decode book at =
-    if length book below suc at + bytes then refused CutShort 0 else placed 0 (decode (take bytes (drop (suc at) book)))
 
 -- 14, by the part of the record's currency
 unfoldable pub flowsFit : List ℕ → Checked Record → Checked Record

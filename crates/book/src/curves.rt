@@ -1,17 +1,17 @@
 // Kind 8: a curve gives its currency the rates of all seven scenarios.
 ghost use mathlib.Core.Path.{_≡_};
-ghost use Prim.Native.Nat.{_+_, _<_, _≤_};
+ghost use Prim.Native.Nat.{_≤_};
 ghost use lib.ListN.{length};
+ghost use Rattle.paper.specs.Book.{placed};
 ghost use Rattle.paper.specs.Decode.{decodeCurve};
 ghost use Rattle.paper.specs.Records.{currencies};
 ghost use Rattle.arrays.specs.Rooms.{curvedBy};
-ghost use Rattle.book.specs.Take.{bodyAt, curvedIn, RateArrays, CurveTaken};
+ghost use Rattle.book.specs.Take.{curvedIn, RateArrays, CurveTaken};
 use crate::masks::Masks;
 use crate::masks::with_currency;
 use crate::positions::part_of;
 use crate::step::Step;
 use curve::fill_section;
-use paper::Refusal;
 use record::curves::DecodedCurve;
 use record::curves::decode_curve;
 use record::rates::rates_at;
@@ -28,21 +28,16 @@ pub fn curved_in(m: Masks, currency: u32) -> Masks
     }
 }
 
-pub fn take_curve(book: &[u8], at: usize, m: Masks, rates: &mut [i64]) -> Step
-    requires { ⌜ (at < length (now book)) × (length (now book) ≤ 65528) ⌝ }
+pub fn take_curve(body: &[u8], next: usize, m: Masks, rates: &mut [i64]) -> Step
+    requires { ⌜ length (now body) ≡ 83 ⌝ }
     requires { ⌜ RateArrays (m .curved) (now rates) ⌝ }
-    ensures { λ r. ⌜ CurveTaken (bodyAt 83 (decodeCurve (curvedBy (m .curved))) (now (book .entry)) at) (at + 84) m (now (rates .entry)) r (now (rates .exit)) ⌝ }
+    ensures { λ r. ⌜ CurveTaken (placed 0 (decodeCurve (curvedBy (m .curved)) (now (body .entry)))) next m (now (rates .entry)) r (now (rates .exit)) ⌝ }
 {
-    let start = at + 1;
-    let next = at + 84;
-    if book.len() < next {
-        return Step::Refused(Refusal::CutShort);
-    }
-    match decode_curve(&book[start..next], m.curved) {
+    match decode_curve(body, m.curved) {
         DecodedCurve::Refused(cause) => Step::Refused(cause),
         DecodedCurve::Is(s) => {
             let mut base = [0i64; 19];
-            rates_at(&book[start..next], &mut base);
+            rates_at(body, &mut base);
             let part = part_of(s.currency);
             let cell = 133 * part;
             let cells = cell + 133;

@@ -4,6 +4,7 @@ pub mod curves;
 pub mod face;
 pub mod masks;
 pub mod positions;
+pub mod reader;
 pub mod records;
 pub mod rooms;
 pub mod step;

@@ -1,14 +1,14 @@
-// The record at a place, kind by kind: cut short, or its body, a part from the middle of the book, is handed to its kind's decoder, and what that reads
-// is slotted into its currency's section of the ledger.
+// The body of a record, a part from the middle of the book, kind by kind: it is handed to its kind's decoder, and what that reads is slotted into its
+// currency's section of the ledger.
 ghost use mathlib.Core.Path.{_≡_};
-ghost use Prim.Native.Nat.{_+_, _-_, _<_, _≤_};
+ghost use Prim.Native.Nat.{_-_, _≤_};
 ghost use lib.ListN.{length};
 ghost use Rattle.paper.specs.Decode.{decodeSingle, decodeCoupons, decodeFloating, decodeDeposit, decodeLoan, decodeTermDeposit, decodeOption};
-ghost use Rattle.book.specs.Take.{bodyAt, FlowArrays, FlowsTaken, OptionArrays, OptionTaken};
+ghost use Rattle.paper.specs.Book.{placed};
+ghost use Rattle.book.specs.Take.{FlowArrays, FlowsTaken, OptionArrays, OptionTaken};
 use crate::masks::Masks;
 use crate::step::Step;
 use crate::step::slotted_step;
-use paper::Refusal;
 use record::coupons::DecodedCoupons;
 use record::coupons::decode_coupons;
 use record::deposit::DecodedDeposit;
@@ -39,17 +39,18 @@ pub fn part_of(currency: u32) -> usize
     (currency - 1) as usize
 }
 
-pub fn take_single(book: &[u8], at: usize, m: Masks, ledger: &mut [i64], sizes: &mut [u64]) -> Step
-    requires { ⌜ (at < length (now book)) × (length (now book) ≤ 65528) ⌝ }
+pub fn take_single(
+    body: &[u8],
+    next: usize,
+    m: Masks,
+    ledger: &mut [i64],
+    sizes: &mut [u64],
+) -> Step
+    requires { ⌜ length (now body) ≡ 9 ⌝ }
     requires { ⌜ FlowArrays (now ledger) (now sizes) ⌝ }
-    ensures { λ r. ⌜ FlowsTaken (bodyAt 9 decodeSingle (now (book .entry)) at) (at + 10) m (now (ledger .entry)) (now (sizes .entry)) r (now (ledger .exit)) (now (sizes .exit)) ⌝ }
+    ensures { λ r. ⌜ FlowsTaken (placed 0 (decodeSingle (now (body .entry)))) next m (now (ledger .entry)) (now (sizes .entry)) r (now (ledger .exit)) (now (sizes .exit)) ⌝ }
 {
-    let start = at + 1;
-    let next = at + 10;
-    if book.len() < next {
-        return Step::Refused(Refusal::CutShort);
-    }
-    match decode_single(&book[start..next]) {
+    match decode_single(body) {
         DecodedSingle::Refused(cause) => Step::Refused(cause),
         DecodedSingle::Is(s) => {
             let part = part_of(s.currency);
@@ -63,17 +64,18 @@ pub fn take_single(book: &[u8], at: usize, m: Masks, ledger: &mut [i64], sizes: 
     }
 }
 
-pub fn take_coupons(book: &[u8], at: usize, m: Masks, ledger: &mut [i64], sizes: &mut [u64]) -> Step
-    requires { ⌜ (at < length (now book)) × (length (now book) ≤ 65528) ⌝ }
+pub fn take_coupons(
+    body: &[u8],
+    next: usize,
+    m: Masks,
+    ledger: &mut [i64],
+    sizes: &mut [u64],
+) -> Step
+    requires { ⌜ length (now body) ≡ 13 ⌝ }
     requires { ⌜ FlowArrays (now ledger) (now sizes) ⌝ }
-    ensures { λ r. ⌜ FlowsTaken (bodyAt 13 decodeCoupons (now (book .entry)) at) (at + 14) m (now (ledger .entry)) (now (sizes .entry)) r (now (ledger .exit)) (now (sizes .exit)) ⌝ }
+    ensures { λ r. ⌜ FlowsTaken (placed 0 (decodeCoupons (now (body .entry)))) next m (now (ledger .entry)) (now (sizes .entry)) r (now (ledger .exit)) (now (sizes .exit)) ⌝ }
 {
-    let start = at + 1;
-    let next = at + 14;
-    if book.len() < next {
-        return Step::Refused(Refusal::CutShort);
-    }
-    match decode_coupons(&book[start..next]) {
+    match decode_coupons(body) {
         DecodedCoupons::Refused(cause) => Step::Refused(cause),
         DecodedCoupons::Is(s) => {
             let part = part_of(s.currency);
@@ -88,22 +90,17 @@ pub fn take_coupons(book: &[u8], at: usize, m: Masks, ledger: &mut [i64], sizes:
 }
 
 pub fn take_floating(
-    book: &[u8],
-    at: usize,
+    body: &[u8],
+    next: usize,
     m: Masks,
     ledger: &mut [i64],
     sizes: &mut [u64],
 ) -> Step
-    requires { ⌜ (at < length (now book)) × (length (now book) ≤ 65528) ⌝ }
+    requires { ⌜ length (now body) ≡ 13 ⌝ }
     requires { ⌜ FlowArrays (now ledger) (now sizes) ⌝ }
-    ensures { λ r. ⌜ FlowsTaken (bodyAt 13 decodeFloating (now (book .entry)) at) (at + 14) m (now (ledger .entry)) (now (sizes .entry)) r (now (ledger .exit)) (now (sizes .exit)) ⌝ }
+    ensures { λ r. ⌜ FlowsTaken (placed 0 (decodeFloating (now (body .entry)))) next m (now (ledger .entry)) (now (sizes .entry)) r (now (ledger .exit)) (now (sizes .exit)) ⌝ }
 {
-    let start = at + 1;
-    let next = at + 14;
-    if book.len() < next {
-        return Step::Refused(Refusal::CutShort);
-    }
-    match decode_floating(&book[start..next]) {
+    match decode_floating(body) {
         DecodedFloating::Refused(cause) => Step::Refused(cause),
         DecodedFloating::Is(s) => {
             let part = part_of(s.currency);
@@ -117,17 +114,17 @@ pub fn take_floating(
     }
 }
 
-pub fn take_deposit(book: &[u8], at: usize, m: Masks, ledger: &mut [i64], sizes: &mut [u64]) -> Step
-    requires { ⌜ (at < length (now book)) × (length (now book) ≤ 65528) ⌝ }
+pub fn take_deposit(
+    body: &[u8],
+    next: usize,
+    m: Masks,
+    ledger: &mut [i64],
+    sizes: &mut [u64],
+) -> Step
+    requires { ⌜ length (now body) ≡ 82 ⌝ }
     requires { ⌜ FlowArrays (now ledger) (now sizes) ⌝ }
-    ensures { λ r. ⌜ FlowsTaken (bodyAt 82 decodeDeposit (now (book .entry)) at) (at + 83) m (now (ledger .entry)) (now (sizes .entry)) r (now (ledger .exit)) (now (sizes .exit)) ⌝ }
+    ensures { λ r. ⌜ FlowsTaken (placed 0 (decodeDeposit (now (body .entry)))) next m (now (ledger .entry)) (now (sizes .entry)) r (now (ledger .exit)) (now (sizes .exit)) ⌝ }
 {
-    let start = at + 1;
-    let next = at + 83;
-    if book.len() < next {
-        return Step::Refused(Refusal::CutShort);
-    }
-    let body = &book[start..next];
     match decode_deposit(body) {
         DecodedDeposit::Refused(cause) => Step::Refused(cause),
         DecodedDeposit::Is(s) => {
@@ -142,17 +139,11 @@ pub fn take_deposit(book: &[u8], at: usize, m: Masks, ledger: &mut [i64], sizes:
     }
 }
 
-pub fn take_loan(book: &[u8], at: usize, m: Masks, ledger: &mut [i64], sizes: &mut [u64]) -> Step
-    requires { ⌜ (at < length (now book)) × (length (now book) ≤ 65528) ⌝ }
+pub fn take_loan(body: &[u8], next: usize, m: Masks, ledger: &mut [i64], sizes: &mut [u64]) -> Step
+    requires { ⌜ length (now body) ≡ 155 ⌝ }
     requires { ⌜ FlowArrays (now ledger) (now sizes) ⌝ }
-    ensures { λ r. ⌜ FlowsTaken (bodyAt 155 decodeLoan (now (book .entry)) at) (at + 156) m (now (ledger .entry)) (now (sizes .entry)) r (now (ledger .exit)) (now (sizes .exit)) ⌝ }
+    ensures { λ r. ⌜ FlowsTaken (placed 0 (decodeLoan (now (body .entry)))) next m (now (ledger .entry)) (now (sizes .entry)) r (now (ledger .exit)) (now (sizes .exit)) ⌝ }
 {
-    let start = at + 1;
-    let next = at + 156;
-    if book.len() < next {
-        return Step::Refused(Refusal::CutShort);
-    }
-    let body = &book[start..next];
     match decode_loan(body) {
         DecodedLoan::Refused(cause) => Step::Refused(cause),
         DecodedLoan::Is(s) => {
@@ -168,22 +159,16 @@ pub fn take_loan(book: &[u8], at: usize, m: Masks, ledger: &mut [i64], sizes: &m
 }
 
 pub fn take_term_deposit(
-    book: &[u8],
-    at: usize,
+    body: &[u8],
+    next: usize,
     m: Masks,
     ledger: &mut [i64],
     sizes: &mut [u64],
 ) -> Step
-    requires { ⌜ (at < length (now book)) × (length (now book) ≤ 65528) ⌝ }
+    requires { ⌜ length (now body) ≡ 79 ⌝ }
     requires { ⌜ FlowArrays (now ledger) (now sizes) ⌝ }
-    ensures { λ r. ⌜ FlowsTaken (bodyAt 79 decodeTermDeposit (now (book .entry)) at) (at + 80) m (now (ledger .entry)) (now (sizes .entry)) r (now (ledger .exit)) (now (sizes .exit)) ⌝ }
+    ensures { λ r. ⌜ FlowsTaken (placed 0 (decodeTermDeposit (now (body .entry)))) next m (now (ledger .entry)) (now (sizes .entry)) r (now (ledger .exit)) (now (sizes .exit)) ⌝ }
 {
-    let start = at + 1;
-    let next = at + 80;
-    if book.len() < next {
-        return Step::Refused(Refusal::CutShort);
-    }
-    let body = &book[start..next];
     match decode_term_deposit(body) {
         DecodedTermDeposit::Refused(cause) => Step::Refused(cause),
         DecodedTermDeposit::Is(s) => {
@@ -205,22 +190,17 @@ pub fn take_term_deposit(
 
 // Kind 7 makes no flow: its values join the currency's add-ons.
 pub fn take_option(
-    book: &[u8],
-    at: usize,
+    body: &[u8],
+    next: usize,
     m: Masks,
     options: &mut [u64],
     addons: &mut [i64],
 ) -> Step
-    requires { ⌜ (at < length (now book)) × (length (now book) ≤ 65528) ⌝ }
+    requires { ⌜ length (now body) ≡ 26 ⌝ }
     requires { ⌜ OptionArrays (now options) (now addons) ⌝ }
-    ensures { λ r. ⌜ OptionTaken (bodyAt 26 decodeOption (now (book .entry)) at) (at + 27) m (now (options .entry)) (now (addons .entry)) r (now (options .exit)) (now (addons .exit)) ⌝ }
+    ensures { λ r. ⌜ OptionTaken (placed 0 (decodeOption (now (body .entry)))) next m (now (options .entry)) (now (addons .entry)) r (now (options .exit)) (now (addons .exit)) ⌝ }
 {
-    let start = at + 1;
-    let next = at + 27;
-    if book.len() < next {
-        return Step::Refused(Refusal::CutShort);
-    }
-    match decode_option(&book[start..next]) {
+    match decode_option(body) {
         DecodedOption::Refused(cause) => Step::Refused(cause),
         DecodedOption::Is(s) => {
             let part = part_of(s.currency);

@@ -8,8 +8,9 @@ use crate::masks::with_currency;
 use paper::Refusal;
 use posting::Slotted;
 
-// A record is taken, and the walk goes on at the next with these masks; or it is refused.
+// The book is at its end; or a record is taken, and the walk goes on at the next with these masks; or it is refused.
 pub enum Step {
+    End,
     On(usize, Masks),
     Refused(Refusal),
 }

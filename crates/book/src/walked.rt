@@ -31,8 +31,11 @@ pub fn walk(
 {
     let mut at = 0;
     let mut m = Masks { used: 0, curved: 0 };
-    while at < book.len() {
+    loop {
         match step(book, at, m, ledger, rates, addons, sizes, options) {
+            Step::End => {
+                return Walked::All(m);
+            }
             Step::Refused(cause) => {
                 return Walked::Refused(cause, at);
             }
@@ -42,5 +45,4 @@ pub fn walk(
             }
         }
     }
-    Walked::All(m)
 }

@@ -1,12 +1,10 @@
--- `take_curve`: cut short, refused by its decoder, or its rates filled in.
-use Prim.Native.Nat.{ℕ, _+_, _-_}
+-- `take_curve`: refused by its decoder, or its rates filled in.
+use Prim.Native.Nat.{ℕ}
 use mathlib.Core.Bool.{Bool}
 use mathlib.Core.List.{List}
 use mathlib.Core.Path.{_≡_, refl, sym, ap, _∙_}
 use native.Mathlib.Omega.{arith}
 use borrow.Author.Needs.{needs}
-use lib.ListN.{take, drop}
-use Rattle.paper.specs.declared.Refusal.the-variants.{CutShort}
 use Rattle.paper.specs.Refusals.{accepted}
 use Rattle.paper.specs.Ladder.{buckets}
 use Rattle.paper.specs.Records.{curve, currencies}
@@ -19,29 +17,22 @@ use Rattle.arrays.specs.Rooms.{curvedBy}
 use lib.IntN.{ℤ}
 use Rattle.curve.specs.Shocked.{curveOf, shockedSection}
 use Rattle.record.specs.Told.{ratesFrom, goodRates, curveRead}
-use Rattle.book.specs.Take.{bodyAt}
-use Rattle.book.proofs.Returned.{body-cut, body-whole, part-length}
+use Rattle.book.proofs.Returned.{part-length}
 use Rattle.book.proofs.Curving.{rates-good, base-is, curve-returned, curve-refused}
 use Rattle.book.proofs.curves.take_curve.Statement.{statement}
 use Rattle.book.proofs.curves.take_curve.Tie as tie
-use Rattle.book.proofs.curves.take_curve.Reads as reads
-use Rattle.book.proofs.curves.take_curve.Lts as lts
 
 -- what is known once the body has been read
 module _ (c : tie.After-known-told2) where
   abbrev body : List ℕ
-  body = take (c .before .before .before .before .before .before .before .args .at + 84 - (c .before .before .before .before .before .before .before .args .at + 1)) (drop (c .before .before .before .before .before .before .before .args .at + 1) (c .before .before .before .before .before .before .before .args .book .now))
+  body = c .before .before .before .before .before .args .body .now
 
   abbrev curved : ℕ → Bool
-  curved = curvedBy (c .before .before .before .before .before .before .before .args .m .curved)
+  curved = curvedBy (c .before .before .before .before .before .args .m .curved)
 
   decoded : placed 0 (decodeCurve curved body) ≡ accepted (curve (c .before .s .given .0 .0 .currency) (curveOf (ratesFrom body) (c .before .s .given .0 .0 .shocks)))
   unfolding curveRead
   decoded = sym (c .before .before .before .decode-curve .ensures) ∙ ap (curveRead body) (c .before .s .given .1)
-
-  read : bodyAt 83 (decodeCurve curved) (c .before .before .before .before .before .before .before .args .book .now) (c .before .before .before .before .before .before .before .args .at)
-      ≡ accepted (curve (c .before .s .given .0 .0 .currency) (curveOf (ratesFrom body) (c .before .s .given .0 .0 .shocks)))
-  read = sym (body-whole 83 (decodeCurve curved) _ _ (c .before .before .before .before .before .if1 .left)) ∙ decoded
 
   sound : Between 1 currencies (c .before .s .given .0 .0 .currency) × SoundCurve curved (c .before .s .given .0 .0 .currency) (curveOf (ratesFrom body) (c .before .s .given .0 .0 .shocks))
   unfolding Sound
@@ -49,26 +40,6 @@ module _ (c : tie.After-known-told2) where
 
   good : goodRates body ≡ buckets
   good = known-of (placed-known 0 (rates-good curved body)) _ decoded
-
-add-start : tie.Need-add-start
-add-start c = search needs
-
-add-next : tie.Need-add-next
-add-next c = search needs
-
-returns : tie.Need-returns
-returns c =
-    let s = c .before .before in
-    rw (body-cut 83 (decodeCurve (curvedBy (s .args .m .curved))) (s .args .book .now) (s .args .at) (c .if1 .taken)) (curve-refused CutShort 0 _ _ _)
-
-sub-decode-curve : tie.Need-sub-decode-curve
-sub-decode-curve c = search needs
-
-part-decode-curve-start : tie.Need-part-decode-curve-start
-part-decode-curve-start c = search needs
-
-part-decode-curve-end : tie.Need-part-decode-curve-end
-part-decode-curve-end c = search needs
 
 decode-curve-requires : tie.Need-decode-curve-requires
 decode-curve-requires c κs = search needs
@@ -79,15 +50,6 @@ enum-known-cause c = search needs
 enum-known-s : tie.Need-enum-known-s
 enum-known-s c = search needs
 
-sub-rates-at : tie.Need-sub-rates-at
-sub-rates-at c = search needs
-
-part-rates-at-start : tie.Need-part-rates-at-start
-part-rates-at-start c = search needs
-
-part-rates-at-end : tie.Need-part-rates-at-end
-part-rates-at-end c = search needs
-
 slice-aggregate-rates-at : tie.Need-slice-aggregate-rates-at
 slice-aggregate-rates-at c = search needs
 
@@ -95,7 +57,7 @@ rates-at-requires : tie.Need-rates-at-requires
 rates-at-requires c κs = search needs
 
 part-of-requires : tie.Need-part-of-requires
-part-of-requires c κs = sound (c .before .before .before .before) .0 .from
+part-of-requires c κs = sound (c .before .before .before) .0 .from
 
 mul-cell : tie.Need-mul-cell
 mul-cell c = search needs
@@ -117,59 +79,50 @@ part-fill-section-start c = search needs
 
 part-fill-section-end : tie.Need-part-fill-section-end
 part-fill-section-end c =
-    let b = sound (c .before .before .before .before .before .before .before) .0 in
-    omega (arith, b .from, b .to, c .before .before .part-of .ensures, c .before .before .before .before .before .before .before .before .before .before .before .before .before .before .pre .1 .rates-long)
+    let b = sound (c .before .before .before .before .before .before) .0 in
+    omega (arith, b .from, b .to, c .before .before .part-of .ensures, c .before .before .before .before .before .before .before .before .before .before .before .pre .1 .rates-long)
 
 fill-section-requires : tie.Need-fill-section-requires
 fill-section-requires c κs =
-    let w = c .before .before .before .before .before .before .before .before in
+    let w = c .before .before .before .before .before .before .before in
     let known = sound w in
     let base = c .before .before .before .before .before .rates-at .ensures .1 ∙ base-is (body w) _ (good w) refl in
     let part = c .before .before .before .part-of in (
       rw base (known .1 .base),
       (
         record { parallel-most = known .1 .parallel .to; short-most = known .1 .short .to; long-most = known .1 .long .to },
-        part-length 133 (part .result) _ (omega (arith, part .ensures, known .0 .from, known .0 .to, w .before .before .before .before .before .before .before .pre .1 .rates-long)),
+        part-length 133 (part .result) _ (omega (arith, part .ensures, known .0 .from, known .0 .to, w .before .before .before .before .before .pre .1 .rates-long)),
       ),
     )
 
 curved-in-requires : tie.Need-curved-in-requires
-curved-in-requires c κs = let b = sound (c .before .before .before .before .before .before .before .before .before .before) .0 in (b .from, b .to)
+curved-in-requires c κs = let b = sound (c .before .before .before .before .before .before .before .before .before) .0 in (b .from, b .to)
 
-returns-2 : tie.Need-returns-2
+returns : tie.Need-returns
 unfolding curveRead
-returns-2 c =
+returns c =
     let d = c .before .before .before in
-    rw (sym (body-whole 83 (decodeCurve (curvedBy (d .before .before .before .before .args .m .curved))) _ _ (d .before .before .if1 .left)) ∙ sym (d .decode-curve .ensures) ∙ ap (curveRead _) (c .before .cause .given .1)) (curve-refused _ 0 _ _ _)
+    rw (sym (d .decode-curve .ensures) ∙ ap (curveRead _) (c .before .cause .given .1)) (curve-refused _ 0 _ _ _)
 
 same-length : tie.Need-same-length
 same-length c = search needs
 
-returns-3 : tie.Need-returns-3
-returns-3 c =
+returns-2 : tie.Need-returns-2
+returns-2 c =
     let f = c .before .before in
-    let w = f .before .before .before .before .before .before .before .before .before in
+    let w = f .before .before .before .before .before .before .before .before in
     let known = sound w in
     let base = f .before .before .before .before .before .before .rates-at .ensures .1 ∙ base-is (body w) _ (good w) refl in
-    curve-returned _ _ (known .0 .from) (known .0 .to) _ (f .before .before .before .before .part-of .ensures) _ _ (read w) _ (w .before .before .before .before .before .before .before .pre .1) (known .1 .fresh)
+    curve-returned _ _ (known .0 .from) (known .0 .to) _ (f .before .before .before .before .part-of .ensures) _ _ (decoded w) _ (w .before .before .before .before .before .pre .1) (known .1 .fresh)
     (f .fill-section .ensures ∙ ap (λ (l : List ℤ). shockedSection (curveOf l (w .before .s .given .0 .0 .shocks))) base) (c .curved-in .ensures)
 
 pub take-curve-spec : {M : Type 1} → statement M
 take-curve-spec =
     tie.close
     (tie.spec
-    add-start
-    add-next
-    returns
-    sub-decode-curve
-    part-decode-curve-start
-    part-decode-curve-end
     decode-curve-requires
     enum-known-cause
     enum-known-s
-    sub-rates-at
-    part-rates-at-start
-    part-rates-at-end
     slice-aggregate-rates-at
     rates-at-requires
     part-of-requires
@@ -182,6 +135,6 @@ take-curve-spec =
     part-fill-section-end
     fill-section-requires
     curved-in-requires
-    returns-2
+    returns
     same-length
-    returns-3)
+    returns-2)

@@ -1,17 +1,15 @@
--- `take_coupons`: cut short, refused by its decoder, or slotted; each by the law of its form.
+-- `take_coupons`: refused by its decoder, or slotted; each by the law of its form.
 use mathlib.Core.Bool.{false}
 use mathlib.Core.Path.{_≡_, refl, sym, ap, _∙_}
 use native.Mathlib.Omega.{arith}
 use borrow.Author.Needs.{needs}
-use Rattle.paper.specs.declared.Refusal.the-variants.{CutShort}
 use Rattle.paper.specs.Refusals.{accepted}
 use Rattle.paper.specs.Records.{flows, currencies, currencyOf, isCurve}
-use Rattle.paper.proofs.Known.{known-of}
+use Rattle.paper.proofs.Known.{known-of, placed-known}
 use Rattle.paper.specs.Sound.{Between, SoundFlows, Sound}
-use Rattle.book.specs.Take.{bodyAt}
+use Rattle.paper.specs.Book.{placed}
 use Rattle.book.proofs.Taking.{flows-refused}
-use Rattle.book.proofs.Alike.{body-known}
-use Rattle.book.proofs.Returned.{body-cut, body-whole, flow-parts, flows-returned}
+use Rattle.book.proofs.Returned.{flow-parts, flows-returned}
 use Rattle.paper.specs.Decode.{decodeCoupons}
 use Rattle.paper.proofs.Sound.{coupons-sound}
 use Rattle.record.specs.Told.{couponsRead}
@@ -21,36 +19,16 @@ use Rattle.book.proofs.positions.take_coupons.Tie as tie
 
 -- what is known once the body has been read
 module _ (c : tie.After-known-told2) where
-  read : bodyAt 13 decodeCoupons (c .before .before .before .before .before .before .before .before .args .book .now) (c .before .before .before .before .before .before .before .before .args .at)
+  read : placed 0 (decodeCoupons (c .before .before .before .before .before .before .args .body .now))
       ≡ accepted (flows ((c .before .s .given .0 .0) .currency) (couponsOf (c .before .s .given .0 .0)))
   unfolding couponsRead
   read =
       let d = c .before .before .before in
-      sym (body-whole 13 decodeCoupons _ _ (d .before .before .if1 .left)) ∙ sym (d .decode-coupons .ensures) ∙ ap couponsRead (c .before .s .given .1)
+      sym (d .decode-coupons .ensures) ∙ ap couponsRead (c .before .s .given .1)
 
   sound : Between 1 currencies ((c .before .s .given .0 .0) .currency) × SoundFlows (couponsOf (c .before .s .given .0 .0))
   unfolding Sound
-  sound = known-of (body-known 13 decodeCoupons _ _ (coupons-sound (λ _. false))) _ read
-
-add-start : tie.Need-add-start
-add-start c = search needs
-
-add-next : tie.Need-add-next
-add-next c = search needs
-
-returns : tie.Need-returns
-returns c =
-    let s = c .before .before .before in
-    rw (body-cut 13 decodeCoupons (s .args .book .now) (s .args .at) (c .if1 .taken)) (flows-refused CutShort 0 _ _ _ _)
-
-sub-decode-coupons : tie.Need-sub-decode-coupons
-sub-decode-coupons c = search needs
-
-part-decode-coupons-start : tie.Need-part-decode-coupons-start
-part-decode-coupons-start c = search needs
-
-part-decode-coupons-end : tie.Need-part-decode-coupons-end
-part-decode-coupons-end c = search needs
+  sound = known-of (placed-known 0 (coupons-sound (λ _. false) _)) _ read
 
 decode-coupons-requires : tie.Need-decode-coupons-requires
 decode-coupons-requires c κs = search needs
@@ -86,7 +64,7 @@ part-slot-coupons-start : tie.Need-part-slot-coupons-start
 part-slot-coupons-start c = search needs
 
 part-slot-coupons-end : tie.Need-part-slot-coupons-end
-part-slot-coupons-end c = let b = sound (c .before) .0 in omega (arith, b .from, b .to, c .part-of .ensures, c .before .before .before .before .before .before .before .before .before .pre .1 .ledger-long)
+part-slot-coupons-end c = let b = sound (c .before) .0 in omega (arith, b .from, b .to, c .part-of .ensures, c .before .before .before .before .before .before .before .pre .1 .ledger-long)
 
 mul-slot-coupons-2 : tie.Need-mul-slot-coupons-2
 mul-slot-coupons-2 c = search needs
@@ -101,22 +79,22 @@ part-slot-coupons-end-2 : tie.Need-part-slot-coupons-end-2
 part-slot-coupons-end-2 c =
     let w = c .before in
     let b = sound (w .before) .0 in
-    omega (arith, b .from, b .to, w .part-of .ensures, w .before .before .before .before .before .before .before .before .before .pre .1 .sizes-long)
+    omega (arith, b .from, b .to, w .part-of .ensures, w .before .before .before .before .before .before .before .pre .1 .sizes-long)
 
 slot-coupons-requires : tie.Need-slot-coupons-requires
 slot-coupons-requires c κs =
     let w = c .before .before in
     let known = sound (w .before) in
-    (known .1, flow-parts _ _ (w .part-of .ensures) (known .0 .from) (known .0 .to) (w .before .before .before .before .before .before .before .before .before .pre .1))
+    (known .1, flow-parts _ _ (w .part-of .ensures) (known .0 .from) (known .0 .to) (w .before .before .before .before .before .before .before .pre .1))
 
 slotted-step-requires : tie.Need-slotted-step-requires
 slotted-step-requires c κs = let b = sound (c .before .before .before .before .before .before .before) .0 in (b .from, b .to)
 
-returns-2 : tie.Need-returns-2
+returns : tie.Need-returns
 unfolding couponsRead
-returns-2 c =
+returns c =
     let d = c .before .before .before in
-    rw (sym (body-whole 13 decodeCoupons _ _ (d .before .before .if1 .left)) ∙ sym (d .decode-coupons .ensures) ∙ ap couponsRead (c .before .cause .given .1)) (flows-refused _ 0 _ _ _ _)
+    rw (sym (d .decode-coupons .ensures) ∙ ap couponsRead (c .before .cause .given .1)) (flows-refused _ 0 _ _ _ _)
 
 same-length : tie.Need-same-length
 same-length c = search needs
@@ -124,9 +102,9 @@ same-length c = search needs
 same-length-2 : tie.Need-same-length-2
 same-length-2 c = search needs
 
-returns-3 : tie.Need-returns-3
+returns-2 : tie.Need-returns-2
 unfolding isCurve currencyOf
-returns-3 c =
+returns-2 c =
     let q = c .before .before .before .before in
     let w = q .before .before .before in
     flows-returned (flows _ _) refl _ (w .part-of .ensures) _ _ (read (w .before)) _ _ (q .slot-coupons .ensures) (c .slotted-step .ensures)
@@ -135,12 +113,6 @@ pub take-coupons-spec : {M : Type 1} → statement M
 take-coupons-spec =
     tie.close
     (tie.spec
-    add-start
-    add-next
-    returns
-    sub-decode-coupons
-    part-decode-coupons-start
-    part-decode-coupons-end
     decode-coupons-requires
     enum-known-cause
     enum-known-s
@@ -159,7 +131,7 @@ take-coupons-spec =
     part-slot-coupons-end-2
     slot-coupons-requires
     slotted-step-requires
-    returns-2
+    returns
     same-length
     same-length-2
-    returns-3)
+    returns-2)

@@ -1,19 +1,15 @@
--- `take_deposit`: cut short, refused by its decoder, or slotted; each by the law of its form.
-use Prim.Native.Nat.{_+_, _-_}
-use lib.ListN.{take, drop}
+-- `take_deposit`: refused by its decoder, or slotted; each by the law of its form.
 use mathlib.Core.Bool.{false}
 use mathlib.Core.Path.{_≡_, refl, sym, ap, _∙_}
 use native.Mathlib.Omega.{arith}
 use borrow.Author.Needs.{needs}
-use Rattle.paper.specs.declared.Refusal.the-variants.{CutShort}
 use Rattle.paper.specs.Refusals.{accepted}
 use Rattle.paper.specs.Records.{flows, currencies, currencyOf, isCurve}
-use Rattle.paper.proofs.Known.{known-of}
+use Rattle.paper.proofs.Known.{known-of, placed-known}
 use Rattle.paper.specs.Sound.{Between, SoundFlows, Sound}
-use Rattle.book.specs.Take.{bodyAt}
+use Rattle.paper.specs.Book.{placed}
 use Rattle.book.proofs.Taking.{flows-refused}
-use Rattle.book.proofs.Alike.{body-known}
-use Rattle.book.proofs.Returned.{body-cut, body-whole, flow-parts, flows-returned}
+use Rattle.book.proofs.Returned.{flow-parts, flows-returned}
 use Rattle.paper.specs.Decode.{decodeDeposit}
 use Rattle.paper.proofs.Sound.{deposit-sound}
 use Rattle.record.specs.Told.{depositRead}
@@ -23,36 +19,16 @@ use Rattle.book.proofs.positions.take_deposit.Tie as tie
 
 -- what is known once the body has been read
 module _ (c : tie.After-known-told2) where
-  read : bodyAt 82 decodeDeposit (c .before .before .before .before .before .before .before .before .args .book .now) (c .before .before .before .before .before .before .before .before .args .at)
-      ≡ accepted (flows ((c .before .s .given .0 .0) .currency) (depositOf (c .before .s .given .0 .0) (take ((c .before .before .before .before .before .before .before .before .args .at) + 83 - ((c .before .before .before .before .before .before .before .before .args .at) + 1)) (drop ((c .before .before .before .before .before .before .before .before .args .at) + 1) (c .before .before .before .before .before .before .before .before .args .book .now)))))
+  read : placed 0 (decodeDeposit (c .before .before .before .before .before .before .args .body .now))
+      ≡ accepted (flows ((c .before .s .given .0 .0) .currency) (depositOf (c .before .s .given .0 .0) (c .before .before .before .before .before .before .args .body .now)))
   unfolding depositRead
   read =
       let d = c .before .before .before in
-      sym (body-whole 82 decodeDeposit _ _ (d .before .before .if1 .left)) ∙ sym (d .decode-deposit .ensures) ∙ ap (depositRead _) (c .before .s .given .1)
+      sym (d .decode-deposit .ensures) ∙ ap (depositRead _) (c .before .s .given .1)
 
-  sound : Between 1 currencies ((c .before .s .given .0 .0) .currency) × SoundFlows (depositOf (c .before .s .given .0 .0) (take ((c .before .before .before .before .before .before .before .before .args .at) + 83 - ((c .before .before .before .before .before .before .before .before .args .at) + 1)) (drop ((c .before .before .before .before .before .before .before .before .args .at) + 1) (c .before .before .before .before .before .before .before .before .args .book .now))))
+  sound : Between 1 currencies ((c .before .s .given .0 .0) .currency) × SoundFlows (depositOf (c .before .s .given .0 .0) (c .before .before .before .before .before .before .args .body .now))
   unfolding Sound
-  sound = known-of (body-known 82 decodeDeposit _ _ (deposit-sound (λ _. false))) _ read
-
-add-start : tie.Need-add-start
-add-start c = search needs
-
-add-next : tie.Need-add-next
-add-next c = search needs
-
-returns : tie.Need-returns
-returns c =
-    let s = c .before .before .before in
-    rw (body-cut 82 decodeDeposit (s .args .book .now) (s .args .at) (c .if1 .taken)) (flows-refused CutShort 0 _ _ _ _)
-
-sub-body : tie.Need-sub-body
-sub-body c = search needs
-
-part-body-start : tie.Need-part-body-start
-part-body-start c = search needs
-
-part-body-end : tie.Need-part-body-end
-part-body-end c = search needs
+  sound = known-of (placed-known 0 (deposit-sound (λ _. false) _)) _ read
 
 decode-deposit-requires : tie.Need-decode-deposit-requires
 decode-deposit-requires c κs = search needs
@@ -88,7 +64,7 @@ part-slot-deposit-start : tie.Need-part-slot-deposit-start
 part-slot-deposit-start c = search needs
 
 part-slot-deposit-end : tie.Need-part-slot-deposit-end
-part-slot-deposit-end c = let b = sound (c .before) .0 in omega (arith, b .from, b .to, c .part-of .ensures, c .before .before .before .before .before .before .before .before .before .pre .1 .ledger-long)
+part-slot-deposit-end c = let b = sound (c .before) .0 in omega (arith, b .from, b .to, c .part-of .ensures, c .before .before .before .before .before .before .before .pre .1 .ledger-long)
 
 mul-slot-deposit-2 : tie.Need-mul-slot-deposit-2
 mul-slot-deposit-2 c = search needs
@@ -103,22 +79,22 @@ part-slot-deposit-end-2 : tie.Need-part-slot-deposit-end-2
 part-slot-deposit-end-2 c =
     let w = c .before in
     let b = sound (w .before) .0 in
-    omega (arith, b .from, b .to, w .part-of .ensures, w .before .before .before .before .before .before .before .before .before .pre .1 .sizes-long)
+    omega (arith, b .from, b .to, w .part-of .ensures, w .before .before .before .before .before .before .before .pre .1 .sizes-long)
 
 slot-deposit-requires : tie.Need-slot-deposit-requires
 slot-deposit-requires c κs =
     let w = c .before .before in
     let known = sound (w .before) in
-    ((search needs, known .1), flow-parts _ _ (w .part-of .ensures) (known .0 .from) (known .0 .to) (w .before .before .before .before .before .before .before .before .before .pre .1))
+    ((search needs, known .1), flow-parts _ _ (w .part-of .ensures) (known .0 .from) (known .0 .to) (w .before .before .before .before .before .before .before .pre .1))
 
 slotted-step-requires : tie.Need-slotted-step-requires
 slotted-step-requires c κs = let b = sound (c .before .before .before .before .before .before .before) .0 in (b .from, b .to)
 
-returns-2 : tie.Need-returns-2
+returns : tie.Need-returns
 unfolding depositRead
-returns-2 c =
+returns c =
     let d = c .before .before .before in
-    rw (sym (body-whole 82 decodeDeposit _ _ (d .before .before .if1 .left)) ∙ sym (d .decode-deposit .ensures) ∙ ap (depositRead _) (c .before .cause .given .1)) (flows-refused _ 0 _ _ _ _)
+    rw (sym (d .decode-deposit .ensures) ∙ ap (depositRead _) (c .before .cause .given .1)) (flows-refused _ 0 _ _ _ _)
 
 same-length : tie.Need-same-length
 same-length c = search needs
@@ -126,9 +102,9 @@ same-length c = search needs
 same-length-2 : tie.Need-same-length-2
 same-length-2 c = search needs
 
-returns-3 : tie.Need-returns-3
+returns-2 : tie.Need-returns-2
 unfolding isCurve currencyOf
-returns-3 c =
+returns-2 c =
     let q = c .before .before .before .before in
     let w = q .before .before .before in
     flows-returned (flows _ _) refl _ (w .part-of .ensures) _ _ (read (w .before)) _ _ (q .slot-deposit .ensures) (c .slotted-step .ensures)
@@ -137,12 +113,6 @@ pub take-deposit-spec : {M : Type 1} → statement M
 take-deposit-spec =
     tie.close
     (tie.spec
-    add-start
-    add-next
-    returns
-    sub-body
-    part-body-start
-    part-body-end
     decode-deposit-requires
     enum-known-cause
     enum-known-s
@@ -161,7 +131,7 @@ take-deposit-spec =
     part-slot-deposit-end-2
     slot-deposit-requires
     slotted-step-requires
-    returns-2
+    returns
     same-length
     same-length-2
-    returns-3)
+    returns-2)

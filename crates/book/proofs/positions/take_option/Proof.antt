@@ -1,56 +1,34 @@
--- `take_option`: cut short, refused by its decoder, or slotted; each by the law of its form.
+-- `take_option`: refused by its decoder, or slotted; each by the law of its form.
 use mathlib.Core.Bool.{false}
 use mathlib.Core.Path.{_≡_, refl, sym, ap, _∙_}
 use native.Mathlib.Omega.{arith}
 use borrow.Author.Needs.{needs}
-use Rattle.paper.specs.declared.Refusal.the-variants.{CutShort}
 use Rattle.paper.specs.Refusals.{accepted}
 use Rattle.paper.specs.Records.{option, currencies, currencyOf, isCurve}
 use Rattle.paper.specs.Decode.{decodeOption}
 use Rattle.paper.specs.Sound.{Listed, Between, Small, Sound}
-use Rattle.paper.proofs.Known.{known-of}
+use Rattle.paper.proofs.Known.{known-of, placed-known}
 use Rattle.paper.proofs.Sound.{option-sound}
 use Rattle.record.specs.Told.{optionRead}
 use Rattle.slotting.specs.Meant.{valuesOf}
-use Rattle.book.specs.Take.{bodyAt}
+use Rattle.paper.specs.Book.{placed}
 use Rattle.book.proofs.Taking.{option-refused}
-use Rattle.book.proofs.Alike.{body-known}
-use Rattle.book.proofs.Returned.{body-cut, body-whole, option-parts, option-returned}
+use Rattle.book.proofs.Returned.{option-parts, option-returned}
 use Rattle.book.proofs.positions.take_option.Statement.{statement}
 use Rattle.book.proofs.positions.take_option.Tie as tie
 
 -- what is known once the body has been read
 module _ (c : tie.After-known-told2) where
-  read : bodyAt 26 decodeOption (c .before .before .before .before .before .before .before .before .args .book .now) (c .before .before .before .before .before .before .before .before .args .at)
+  read : placed 0 (decodeOption (c .before .before .before .before .before .before .args .body .now))
       ≡ accepted (option ((c .before .s .given .0 .0) .currency) ((c .before .s .given .0 .0) .side) (valuesOf (c .before .s .given .0 .0)))
   unfolding optionRead
   read =
       let d = c .before .before .before in
-      sym (body-whole 26 decodeOption _ _ (d .before .before .if1 .left)) ∙ sym (d .decode-option .ensures) ∙ ap optionRead (c .before .s .given .1)
+      sym (d .decode-option .ensures) ∙ ap optionRead (c .before .s .given .1)
 
   sound : Between 1 currencies ((c .before .s .given .0 .0) .currency) × Between 1 2 ((c .before .s .given .0 .0) .side) × Listed Small 6 (valuesOf (c .before .s .given .0 .0))
   unfolding Sound
-  sound = known-of (body-known 26 decodeOption _ _ (option-sound (λ _. false))) _ read
-
-add-start : tie.Need-add-start
-add-start c = search needs
-
-add-next : tie.Need-add-next
-add-next c = search needs
-
-returns : tie.Need-returns
-returns c =
-    let s = c .before .before .before in
-    rw (body-cut 26 decodeOption (s .args .book .now) (s .args .at) (c .if1 .taken)) (option-refused CutShort 0 _ _ _ _)
-
-sub-decode-option : tie.Need-sub-decode-option
-sub-decode-option c = search needs
-
-part-decode-option-start : tie.Need-part-decode-option-start
-part-decode-option-start c = search needs
-
-part-decode-option-end : tie.Need-part-decode-option-end
-part-decode-option-end c = search needs
+  sound = known-of (placed-known 0 (option-sound (λ _. false) _)) _ read
 
 decode-option-requires : tie.Need-decode-option-requires
 decode-option-requires c κs = search needs
@@ -80,7 +58,7 @@ part-slot-option-start : tie.Need-part-slot-option-start
 part-slot-option-start c = search needs
 
 part-slot-option-end : tie.Need-part-slot-option-end
-part-slot-option-end c = let b = sound (c .before) .0 in omega (arith, b .from, b .to, c .part-of .ensures, c .before .before .before .before .before .before .before .before .before .pre .1 .sizes-long)
+part-slot-option-end c = let b = sound (c .before) .0 in omega (arith, b .from, b .to, c .part-of .ensures, c .before .before .before .before .before .before .before .pre .1 .sizes-long)
 
 mul-slot-option-2 : tie.Need-mul-slot-option-2
 mul-slot-option-2 c = search needs
@@ -95,22 +73,22 @@ part-slot-option-end-2 : tie.Need-part-slot-option-end-2
 part-slot-option-end-2 c =
     let w = c .before in
     let b = sound (w .before) .0 in
-    omega (arith, b .from, b .to, w .part-of .ensures, w .before .before .before .before .before .before .before .before .before .pre .1 .addOns-long)
+    omega (arith, b .from, b .to, w .part-of .ensures, w .before .before .before .before .before .before .before .pre .1 .addOns-long)
 
 slot-option-requires : tie.Need-slot-option-requires
 slot-option-requires c κs =
     let w = c .before .before in
     let known = sound (w .before) in
-    (known .2, option-parts _ _ (w .part-of .ensures) (known .0 .from) (known .0 .to) (w .before .before .before .before .before .before .before .before .before .pre .1))
+    (known .2, option-parts _ _ (w .part-of .ensures) (known .0 .from) (known .0 .to) (w .before .before .before .before .before .before .before .pre .1))
 
 slotted-step-requires : tie.Need-slotted-step-requires
 slotted-step-requires c κs = let b = sound (c .before .before .before .before .before .before .before) .0 in (b .from, b .to)
 
-returns-2 : tie.Need-returns-2
+returns : tie.Need-returns
 unfolding optionRead
-returns-2 c =
+returns c =
     let d = c .before .before .before in
-    rw (sym (body-whole 26 decodeOption _ _ (d .before .before .if1 .left)) ∙ sym (d .decode-option .ensures) ∙ ap optionRead (c .before .cause .given .1)) (option-refused _ 0 _ _ _ _)
+    rw (sym (d .decode-option .ensures) ∙ ap optionRead (c .before .cause .given .1)) (option-refused _ 0 _ _ _ _)
 
 same-length : tie.Need-same-length
 same-length c = search needs
@@ -118,9 +96,9 @@ same-length c = search needs
 same-length-2 : tie.Need-same-length-2
 same-length-2 c = search needs
 
-returns-3 : tie.Need-returns-3
+returns-2 : tie.Need-returns-2
 unfolding isCurve currencyOf
-returns-3 c =
+returns-2 c =
     let q = c .before .before .before .before in
     let w = q .before .before .before in
     option-returned (option _ _ _) refl _ (w .part-of .ensures) _ _ (read (w .before)) _ _ (q .slot-option .ensures) (c .slotted-step .ensures)
@@ -129,12 +107,6 @@ pub take-option-spec : {M : Type 1} → statement M
 take-option-spec =
     tie.close
     (tie.spec
-    add-start
-    add-next
-    returns
-    sub-decode-option
-    part-decode-option-start
-    part-decode-option-end
     decode-option-requires
     enum-known-cause
     enum-known-s
@@ -151,7 +123,7 @@ take-option-spec =
     part-slot-option-end-2
     slot-option-requires
     slotted-step-requires
-    returns-2
+    returns
     same-length
     same-length-2
-    returns-3)
+    returns-2)

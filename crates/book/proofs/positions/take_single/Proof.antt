@@ -1,60 +1,34 @@
--- `take_single`: cut short, refused by its decoder, or slotted; each by the law of its form.
-use Prim.Native.Nat.{ℕ, _+_, _-_, _≤_}
+-- `take_single`: refused by its decoder, or slotted; each by the law of its form.
 use mathlib.Core.Bool.{false}
 use mathlib.Core.Path.{_≡_, refl, sym, ap, _∙_}
 use native.Mathlib.Omega.{arith}
 use borrow.Author.Needs.{needs}
-use lib.ListN.{take, drop}
-use Rattle.paper.specs.declared.Refusal.the-variants.{CutShort}
-use Rattle.paper.specs.Refusals.{accepted, refused}
+use Rattle.paper.specs.Refusals.{accepted}
 use Rattle.paper.specs.Records.{flows, currencies, currencyOf, isCurve}
 use Rattle.paper.specs.Decode.{decodeSingle}
-use Rattle.paper.proofs.Known.{known-of}
+use Rattle.paper.proofs.Known.{known-of, placed-known}
 use Rattle.paper.specs.Sound.{Between, SoundFlows, Sound}
 use Rattle.paper.proofs.Sound.{single-sound}
 use Rattle.record.specs.Told.{singleRead}
 use Rattle.slotting.specs.Meant.{singleOf}
-use Rattle.book.specs.Take.{bodyAt}
+use Rattle.paper.specs.Book.{placed}
 use Rattle.book.proofs.Taking.{flows-refused}
-use Rattle.book.proofs.Alike.{body-known}
-use Rattle.book.proofs.Returned.{body-cut, body-whole, flow-parts, flows-returned}
+use Rattle.book.proofs.Returned.{flow-parts, flows-returned}
 use Rattle.book.proofs.positions.take_single.Statement.{statement}
 use Rattle.book.proofs.positions.take_single.Tie as tie
-use Rattle.book.proofs.positions.take_single.Reads as reads
-use Rattle.book.proofs.positions.take_single.Lts as lts
 
 -- what is known once the body has been read
 module _ (c : tie.After-known-told2) where
-  read : bodyAt 9 decodeSingle (c .before .before .before .before .before .before .before .before .args .book .now) (c .before .before .before .before .before .before .before .before .args .at)
+  read : placed 0 (decodeSingle (c .before .before .before .before .before .before .args .body .now))
       ≡ accepted (flows (c .before .s .given .0 .0 .currency) (singleOf (c .before .s .given .0 .0)))
   unfolding singleRead
   read =
       let d = c .before .before .before in
-      sym (body-whole 9 decodeSingle _ _ (d .before .before .if1 .left)) ∙ sym (d .decode-single .ensures) ∙ ap singleRead (c .before .s .given .1)
+      sym (d .decode-single .ensures) ∙ ap singleRead (c .before .s .given .1)
 
   sound : Between 1 currencies (c .before .s .given .0 .0 .currency) × SoundFlows (singleOf (c .before .s .given .0 .0))
   unfolding Sound
-  sound = known-of (body-known 9 decodeSingle _ _ (single-sound (λ _. false))) _ read
-
-add-start : tie.Need-add-start
-add-start c = search needs
-
-add-next : tie.Need-add-next
-add-next c = search needs
-
-returns : tie.Need-returns
-returns c =
-    let s = c .before .before .before in
-    rw (body-cut 9 decodeSingle (s .args .book .now) (s .args .at) (c .if1 .taken)) (flows-refused CutShort 0 _ _ _ _)
-
-sub-decode-single : tie.Need-sub-decode-single
-sub-decode-single c = search needs
-
-part-decode-single-start : tie.Need-part-decode-single-start
-part-decode-single-start c = search needs
-
-part-decode-single-end : tie.Need-part-decode-single-end
-part-decode-single-end c = search needs
+  sound = known-of (placed-known 0 (single-sound (λ _. false) _)) _ read
 
 decode-single-requires : tie.Need-decode-single-requires
 decode-single-requires c κs = search needs
@@ -90,7 +64,7 @@ part-slot-single-start : tie.Need-part-slot-single-start
 part-slot-single-start c = search needs
 
 part-slot-single-end : tie.Need-part-slot-single-end
-part-slot-single-end c = let b = sound (c .before) .0 in omega (arith, b .from, b .to, c .part-of .ensures, c .before .before .before .before .before .before .before .before .before .pre .1 .ledger-long)
+part-slot-single-end c = let b = sound (c .before) .0 in omega (arith, b .from, b .to, c .part-of .ensures, c .before .before .before .before .before .before .before .pre .1 .ledger-long)
 
 mul-slot-single-2 : tie.Need-mul-slot-single-2
 mul-slot-single-2 c = search needs
@@ -105,22 +79,22 @@ part-slot-single-end-2 : tie.Need-part-slot-single-end-2
 part-slot-single-end-2 c =
     let w = c .before in
     let b = sound (w .before) .0 in
-    omega (arith, b .from, b .to, w .part-of .ensures, w .before .before .before .before .before .before .before .before .before .pre .1 .sizes-long)
+    omega (arith, b .from, b .to, w .part-of .ensures, w .before .before .before .before .before .before .before .pre .1 .sizes-long)
 
 slot-single-requires : tie.Need-slot-single-requires
 slot-single-requires c κs =
     let w = c .before .before in
     let known = sound (w .before) in
-    (known .1, flow-parts _ _ (w .part-of .ensures) (known .0 .from) (known .0 .to) (w .before .before .before .before .before .before .before .before .before .pre .1))
+    (known .1, flow-parts _ _ (w .part-of .ensures) (known .0 .from) (known .0 .to) (w .before .before .before .before .before .before .before .pre .1))
 
 slotted-step-requires : tie.Need-slotted-step-requires
 slotted-step-requires c κs = let b = sound (c .before .before .before .before .before .before .before) .0 in (b .from, b .to)
 
-returns-2 : tie.Need-returns-2
+returns : tie.Need-returns
 unfolding singleRead
-returns-2 c =
+returns c =
     let d = c .before .before .before in
-    rw (sym (body-whole 9 decodeSingle _ _ (d .before .before .if1 .left)) ∙ sym (d .decode-single .ensures) ∙ ap singleRead (c .before .cause .given .1)) (flows-refused _ 0 _ _ _ _)
+    rw (sym (d .decode-single .ensures) ∙ ap singleRead (c .before .cause .given .1)) (flows-refused _ 0 _ _ _ _)
 
 same-length : tie.Need-same-length
 same-length c = search needs
@@ -128,9 +102,9 @@ same-length c = search needs
 same-length-2 : tie.Need-same-length-2
 same-length-2 c = search needs
 
-returns-3 : tie.Need-returns-3
+returns-2 : tie.Need-returns-2
 unfolding isCurve currencyOf
-returns-3 c =
+returns-2 c =
     let q = c .before .before .before .before in
     let w = q .before .before .before in
     flows-returned (flows _ _) refl _ (w .part-of .ensures) _ _ (read (w .before)) _ _ (q .slot-single .ensures) (c .slotted-step .ensures)
@@ -139,12 +113,6 @@ pub take-single-spec : {M : Type 1} → statement M
 take-single-spec =
     tie.close
     (tie.spec
-    add-start
-    add-next
-    returns
-    sub-decode-single
-    part-decode-single-start
-    part-decode-single-end
     decode-single-requires
     enum-known-cause
     enum-known-s
@@ -163,7 +131,7 @@ take-single-spec =
     part-slot-single-end-2
     slot-single-requires
     slotted-step-requires
-    returns-2
+    returns
     same-length
     same-length-2
-    returns-3)
+    returns-2)

@@ -1,39 +1,55 @@
--- `step`: the functions of the eight kinds, and no such kind.
-use native.Mathlib.Omega.{arith}
+-- `step`: the four answers of the reader.
+use Prim.Native.Nat.{_-_, _≤_}
+use mathlib.Core.Path.{_≡_, sym, _∙_}
 use borrow.Author.Needs.{needs}
-use Rattle.paper.proofs.KindOf.{single-flows, coupons-flows, floating-flows, deposit-flows, loan-flows, term-deposit-flows, option-adds, curve-curves}
-use Rattle.book.proofs.Dispatch.{row-1, row-2, row-3, row-4, row-5, row-6, row-7, row-8, flows-kind, option-kind, curve-kind, unknown-step}
+use lib.ListN.{length, take, drop}
+use Rattle.paper.specs.Records.{bodyLength}
+use Rattle.book.proofs.Turning.{turn-end, turn-unknown, turn-cut, turn-record, in-book}
 use Rattle.book.proofs.records.step.Statement.{statement}
 use Rattle.book.proofs.records.step.Tie as tie
-use Rattle.book.proofs.records.step.Reads as reads
-use Rattle.book.proofs.records.step.Lts as lts
 
-shared-slice-read-kind : tie.Need-shared-slice-read-kind
-shared-slice-read-kind c = search needs
+-- where the record lies
+module _ (c : tie.After-known-told) where
+  lies : (c .before .kind .given .0 .1 .0 ≤ c .before .kind .given .0 .1 .1 .0)
+      × (c .before .kind .given .0 .1 .1 .0 ≤ length (c .before .before .before .before .before .before .before .args .book .now))
+      × (length (take (c .before .kind .given .0 .1 .1 .0 - c .before .kind .given .0 .1 .0) (drop (c .before .kind .given .0 .1 .0) (c .before .before .before .before .before .before .before .args .book .now))) ≡ bodyLength (c .before .kind .given .0 .0))
+  lies = in-book _ _ _ _ _ (sym (c .before .kind .given .1) ∙ c .before .before .before .found-at .ensures)
 
-take-single-requires : tie.Need-take-single-requires
-take-single-requires c κs = search needs
+found-at-requires : tie.Need-found-at-requires
+found-at-requires c κs = search needs
 
-take-coupons-requires : tie.Need-take-coupons-requires
-take-coupons-requires c κs = search needs
+enum-told : tie.Need-enum-told
+enum-told c = search needs
 
-take-floating-requires : tie.Need-take-floating-requires
-take-floating-requires c κs = search needs
+enum-told-2 : tie.Need-enum-told-2
+enum-told-2 c = search needs
 
-take-deposit-requires : tie.Need-take-deposit-requires
-take-deposit-requires c κs = search needs
+enum-told-3 : tie.Need-enum-told-3
+enum-told-3 c = search needs
 
-take-loan-requires : tie.Need-take-loan-requires
-take-loan-requires c κs = search needs
+enum-known-kind : tie.Need-enum-known-kind
+enum-known-kind c = search needs
 
-take-term-deposit-requires : tie.Need-take-term-deposit-requires
-take-term-deposit-requires c κs = search needs
+sub-take-body : tie.Need-sub-take-body
+sub-take-body c = lies c .0
 
-take-option-requires : tie.Need-take-option-requires
-take-option-requires c κs = search needs
+part-take-body-start : tie.Need-part-take-body-start
+part-take-body-start c = lies c .0
 
-take-curve-requires : tie.Need-take-curve-requires
-take-curve-requires c κs = search needs
+part-take-body-end : tie.Need-part-take-body-end
+part-take-body-end c = lies c .1
+
+take-body-requires : tie.Need-take-body-requires
+take-body-requires c κs = (lies (c .before .before .before .before .before .before) .2, c .before .before .before .before .before .before .before .before .before .before .before .before .before .pre)
+
+returns : tie.Need-returns
+returns c = turn-end _ _ _ _ _ (sym (c .enum-told .given .1) ∙ c .before .before .found-at .ensures)
+
+returns-2 : tie.Need-returns-2
+returns-2 c = turn-unknown _ _ _ _ _ (sym (c .enum-told2 .given .1) ∙ c .before .before .found-at .ensures)
+
+returns-3 : tie.Need-returns-3
+returns-3 c = turn-cut _ _ _ _ _ (sym (c .enum-told3 .given .1) ∙ c .before .before .found-at .ensures)
 
 same-length : tie.Need-same-length
 same-length c = search needs
@@ -41,122 +57,37 @@ same-length c = search needs
 same-length-2 : tie.Need-same-length-2
 same-length-2 c = search needs
 
-returns : tie.Need-returns
-returns c =
-    let s = c .before .before .before .before .before .before .before .before .before .before .before in
-    flows-kind _ _ (s .pre .1) _ _ (row-1 _) (c .before .before .before .before .before .before .match .keys1) single-flows (c .before .before .before .take-single .ensures)
-
 same-length-3 : tie.Need-same-length-3
 same-length-3 c = search needs
 
 same-length-4 : tie.Need-same-length-4
 same-length-4 c = search needs
 
-returns-2 : tie.Need-returns-2
-returns-2 c =
-    let s = c .before .before .before .before .before .before .before .before .before .before .before in
-    flows-kind _ _ (s .pre .1) _ _ (row-2 _) (c .before .before .before .before .before .before .match .keys2) coupons-flows (c .before .before .before .take-coupons .ensures)
-
 same-length-5 : tie.Need-same-length-5
 same-length-5 c = search needs
 
-same-length-6 : tie.Need-same-length-6
-same-length-6 c = search needs
-
-returns-3 : tie.Need-returns-3
-returns-3 c =
-    let s = c .before .before .before .before .before .before .before .before .before .before .before in
-    flows-kind _ _ (s .pre .1) _ _ (row-3 _) (c .before .before .before .before .before .before .match .keys3) floating-flows (c .before .before .before .take-floating .ensures)
-
-same-length-7 : tie.Need-same-length-7
-same-length-7 c = search needs
-
-same-length-8 : tie.Need-same-length-8
-same-length-8 c = search needs
-
 returns-4 : tie.Need-returns-4
-returns-4 c =
-    let s = c .before .before .before .before .before .before .before .before .before .before .before in
-    flows-kind _ _ (s .pre .1) _ _ (row-4 _) (c .before .before .before .before .before .before .match .keys4) deposit-flows (c .before .before .before .take-deposit .ensures)
-
-same-length-9 : tie.Need-same-length-9
-same-length-9 c = search needs
-
-same-length-10 : tie.Need-same-length-10
-same-length-10 c = search needs
-
-returns-5 : tie.Need-returns-5
-returns-5 c =
-    let s = c .before .before .before .before .before .before .before .before .before .before .before in
-    flows-kind _ _ (s .pre .1) _ _ (row-5 _) (c .before .before .before .before .before .before .match .keys5) loan-flows (c .before .before .before .take-loan .ensures)
-
-same-length-11 : tie.Need-same-length-11
-same-length-11 c = search needs
-
-same-length-12 : tie.Need-same-length-12
-same-length-12 c = search needs
-
-returns-6 : tie.Need-returns-6
-returns-6 c =
-    let s = c .before .before .before .before .before .before .before .before .before .before .before in
-    flows-kind _ _ (s .pre .1) _ _ (row-6 _) (c .before .before .before .before .before .before .match .keys6) term-deposit-flows (c .before .before .before .take-term-deposit .ensures)
-
-same-length-13 : tie.Need-same-length-13
-same-length-13 c = search needs
-
-same-length-14 : tie.Need-same-length-14
-same-length-14 c = search needs
-
-returns-7 : tie.Need-returns-7
-returns-7 c =
-    let s = c .before .before .before .before .before .before .before .before .before .before .before in
-    option-kind _ _ (s .pre .1) _ _ (row-7 _) (c .before .before .before .before .before .before .match .keys7) option-adds (c .before .before .before .take-option .ensures)
-
-same-length-15 : tie.Need-same-length-15
-same-length-15 c = search needs
-
-returns-8 : tie.Need-returns-8
-returns-8 c =
-    let s = c .before .before .before .before .before .before .before .before in
-    curve-kind _ _ (s .pre .1) _ _ (row-8 _) (c .before .before .before .match .keys8) (λ body. curve-curves body _) (c .before .take-curve .ensures)
-
-returns-9 : tie.Need-returns-9
-returns-9 c = unknown-step _ _ _ _ (c .match .rest)
+returns-4 c = turn-record _ _ _ _ _ _ _ _ (sym (c .before .before .before .before .before .before .before .before .before .before .before .before .before .before .before .kind .given .1) ∙ c .before .before .before .before .before .before .before .before .before .before .before .before .before .before .before .before .before .found-at .ensures) (c .before .before .before .before .before .before .before .take-body .ensures)
 
 pub step-spec : {M : Type 1} → statement M
 step-spec =
     tie.close
     (tie.spec
-    shared-slice-read-kind
-    take-single-requires
-    take-coupons-requires
-    take-floating-requires
-    take-deposit-requires
-    take-loan-requires
-    take-term-deposit-requires
-    take-option-requires
-    take-curve-requires
+    found-at-requires
+    enum-told
+    enum-told-2
+    enum-told-3
+    enum-known-kind
+    sub-take-body
+    part-take-body-start
+    part-take-body-end
+    take-body-requires
+    returns
+    returns-2
+    returns-3
     same-length
     same-length-2
-    returns
     same-length-3
     same-length-4
-    returns-2
     same-length-5
-    same-length-6
-    returns-3
-    same-length-7
-    same-length-8
-    returns-4
-    same-length-9
-    same-length-10
-    returns-5
-    same-length-11
-    same-length-12
-    returns-6
-    same-length-13
-    same-length-14
-    returns-7
-    same-length-15
-    returns-8
-    returns-9)
+    returns-4)

@@ -1,19 +1,18 @@
 -- `walk`: the records are taken one after the other; each goes on in `Walking`, and a refusal stops the paper's walk too.
-use Prim.Native.Nat.{_≤_, _<_, _-_}
+use Prim.Native.Nat.{_-_}
 use mathlib.Core.Path.{_≡_, refl}
 use native.Mathlib.Omega.{arith}
 use borrow.Author.Needs.{needs}
 use lib.ListN.{length}
 use Rattle.book.specs.Step.{arraysAs}
-use Rattle.book.proofs.Walking.{Walking, begun, holds, goes-on}
-use Rattle.book.proofs.Walks.{walks-all, walks-stopped, forward}
+use Rattle.book.proofs.Walking.{Walking, begun, holds}
+use Rattle.book.proofs.Walks.{walks-ended, walks-stopped, walks-on, forward}
 use Rattle.book.proofs.walked.walk.Statement.{statement}
 use Rattle.book.proofs.walked.walk.Tie as tie
 
 abbrev Inv-loop : tie.InvT-loop
 Inv-loop book ledger₀ rates₀ addons₀ sizes₀ options₀ at₀ m₀ ledger rates addons sizes options at m =
-    (length book ≤ 65528)
-    × (length ledger ≡ length ledger₀)
+    (length ledger ≡ length ledger₀)
     × (length rates ≡ length rates₀)
     × (length addons ≡ length addons₀)
     × (length sizes ≡ length sizes₀)
@@ -26,15 +25,13 @@ abbrev μ-loop : tie.MeasureT-loop
 loop-holds : tie.Need-loop-holds Inv-loop μ-loop
 loop-holds c =
     let start = c .before .before .before in
-    (start .pre .0, refl, refl, refl, refl, refl, begun _ _ (start .pre .1))
+    (refl, refl, refl, refl, refl, begun _ _ (start .pre .1))
 
 step-requires : tie.Need-step-requires Inv-loop μ-loop
-step-requires c κs =
-    let inv = c .before .before .before .before .before .before .loop .inv in
-    ((omega arith, inv .0), holds _ _ _ _ (inv .6))
+step-requires c κs = holds _ _ _ _ (c .before .before .before .before .before .loop .inv .5)
 
-enum-known-cause : tie.Need-enum-known-cause Inv-loop μ-loop
-enum-known-cause c = search needs
+enum-told : tie.Need-enum-told Inv-loop μ-loop
+enum-told c = search needs
 
 same-length : tie.Need-same-length Inv-loop μ-loop
 same-length c = search needs
@@ -53,22 +50,11 @@ same-length-5 c = search needs
 
 returns : tie.Need-returns Inv-loop μ-loop
 returns c =
-    let at = c .before .before .before .before .before .before .before .before .before .before .before .before .before .before .before .before .before .loop in
-    walks-stopped _ _ (at .at) (at .m) (at .inv .6) (omega arith) _ _ (c .before .before .before .before .before .before .before .before .before .before .step .ensures) _ (c .before .cause .given .1)
+    let at = c .before .before .before .before .before .before .before .before .before .before .before .before .before .before .before .loop in
+    walks-ended _ _ (at .at) (at .m) (at .inv .5) _ _ (c .before .before .before .before .before .before .before .before .before .step .ensures) (c .enum-told .given .1)
 
-enum-known-next : tie.Need-enum-known-next Inv-loop μ-loop
-enum-known-next c = search needs
-
-loop-less : tie.Need-loop-less Inv-loop μ-loop
-loop-less c =
-    let at = c .before .before .before .before .before .before .before .before .before .before .before .before .before .before .before .before .before .loop in
-    let on = forward _ _ (at .at) (at .m) (at .inv .6) (omega arith) _ _ (c .before .before .before .before .before .before .before .before .before .before .step .ensures) _ _ (c .before .next .given .1) in
-    omega arith
-
-loop-again : tie.Need-loop-again Inv-loop μ-loop
-loop-again c =
-    let at = c .before .before .before .before .before .before .before .before .before .before .before .before .before .before .before .before .before .loop in
-    (at .inv .0, omega arith, omega arith, omega arith, omega arith, omega arith, goes-on _ _ (at .at) (at .m) (at .inv .6) (omega arith) _ _ (c .before .before .before .before .before .before .before .before .before .before .step .ensures) _ _ (c .before .next .given .1))
+enum-known-cause : tie.Need-enum-known-cause Inv-loop μ-loop
+enum-known-cause c = search needs
 
 same-length-6 : tie.Need-same-length-6 Inv-loop μ-loop
 same-length-6 c = search needs
@@ -87,10 +73,24 @@ same-length-10 c = search needs
 
 returns-2 : tie.Need-returns-2 Inv-loop μ-loop
 returns-2 c =
-    let at = c .before .loop in
-    walks-all _ _ (at .at) (at .m) (at .inv .6) (omega arith)
+    let at = c .before .before .before .before .before .before .before .before .before .before .before .before .before .before .before .before .loop in
+    walks-stopped _ _ (at .at) (at .m) (at .inv .5) _ _ (c .before .before .before .before .before .before .before .before .before .before .step .ensures) _ (c .before .cause .given .1)
+
+enum-known-next : tie.Need-enum-known-next Inv-loop μ-loop
+enum-known-next c = search needs
+
+loop-less : tie.Need-loop-less Inv-loop μ-loop
+loop-less c =
+    let at = c .before .before .before .before .before .before .before .before .before .before .before .before .before .before .before .before .loop in
+    let on = forward _ _ (at .at) (at .m) (at .inv .5) _ _ (c .before .before .before .before .before .before .before .before .before .before .step .ensures) _ _ (c .before .next .given .1) in
+    omega (arith, on .0, on .1)
+
+loop-again : tie.Need-loop-again Inv-loop μ-loop
+loop-again c =
+    let at = c .before .before .before .before .before .before .before .before .before .before .before .before .before .before .before .before .loop in
+    (omega arith, omega arith, omega arith, omega arith, omega arith, walks-on _ _ (at .at) (at .m) (at .inv .5) _ _ (c .before .before .before .before .before .before .before .before .before .before .step .ensures) _ _ (c .before .next .given .1))
 
 pub walk-spec : {M : Type 1} → statement M
 walk-spec =
     tie.close
-    (tie.spec Inv-loop μ-loop loop-holds step-requires enum-known-cause same-length same-length-2 same-length-3 same-length-4 same-length-5 returns enum-known-next loop-less loop-again same-length-6 same-length-7 same-length-8 same-length-9 same-length-10 returns-2)
+    (tie.spec Inv-loop μ-loop loop-holds step-requires enum-told same-length same-length-2 same-length-3 same-length-4 same-length-5 returns enum-known-cause same-length-6 same-length-7 same-length-8 same-length-9 same-length-10 returns-2 enum-known-next loop-less loop-again)
