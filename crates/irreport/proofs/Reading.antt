@@ -1,11 +1,10 @@
 -- What a read told.
 use Prim.Native.Nat.{ℕ, _+_, _-_, _≤_, _<_}
 use mathlib.Core.List.{List}
-use mathlib.Core.Path.{_≡_, sym}
+use mathlib.Core.Path.{_≡_}
 use native.Mathlib.Omega.{arith}
 use borrow.Rule.Slice.PartMut.{mid-len}
 use lib.ListN.{length, take, drop}
-use lib.Seq.{length-take-le}
 use Rattle.irreport.specs.declared.Input.{Input}
 use Rattle.irreport.specs.declared.Input.the-variants.{Bytes, Failed}
 

@@ -57,7 +57,7 @@ fn read_input(room: &mut [u8]) -> Input
 fn print(input: &[u8]) {
     let mut out = [0u8; 2048];
     let count = print_answer(input, &mut out);
-    io::write_all(STDOUT_FILENO, &out[..count]);
+    io::write_all(STDOUT_FILENO, &out[0..count]);
 }
 
 // One byte more than the longest input that is read as a book, so that a longer one is seen to be longer.
@@ -70,6 +70,6 @@ fn main() {
                 b"irreport: standard input cannot be read; nothing is reported\n",
             );
         }
-        Input::Bytes(n) => print(&room[..n]),
+        Input::Bytes(n) => print(&room[0..n]),
     }
 }

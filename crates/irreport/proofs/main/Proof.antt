@@ -1,7 +1,4 @@
 -- `main`: what was read is a part of the room from its start.
-use mathlib.Core.Path.{sym}
-use native.Mathlib.Omega.{arith}
-use lib.Seq.{length-take-le}
 use borrow.Author.Needs.{needs}
 use Rattle.irreport.proofs.main.Statement.{statement}
 use Rattle.irreport.proofs.main.Tie as tie
@@ -24,15 +21,16 @@ write-all-requires c κs = search needs
 enum-known-n : tie.Need-enum-known-n
 enum-known-n c = search needs
 
-array-share-prefix-room : tie.Need-array-share-prefix-room
-array-share-prefix-room c =
-    let few = c .before .before .before .before .read-input .ensures _ (c .before .n .given .1) in
-    search (needs, few)
+sub-print : tie.Need-sub-print
+sub-print c = search needs
 
-slice-aggregate-print : tie.Need-slice-aggregate-print
-slice-aggregate-print c =
+part-print-start : tie.Need-part-print-start
+part-print-start c = search needs
+
+part-print-end : tie.Need-part-print-end
+part-print-end c =
     let few = c .before .before .before .before .before .read-input .ensures _ (c .before .before .n .given .1) in
-    sym (length-take-le _ _ (omega (arith, few)))
+    search (needs, few)
 
 print-requires : tie.Need-print-requires
 print-requires c κs = search needs
@@ -53,8 +51,9 @@ main-spec =
     slice-aggregate-write-all
     write-all-requires
     enum-known-n
-    array-share-prefix-room
-    slice-aggregate-print
+    sub-print
+    part-print-start
+    part-print-end
     print-requires
     returns
     returns-2)
