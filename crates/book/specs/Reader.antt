@@ -9,9 +9,9 @@ use Rattle.paper.specs.Book.{nextAt}
 use Rattle.book.specs.declared.reader.Found.{Found}
 use Rattle.book.specs.declared.reader.Found.the-variants.{End, UnknownKind, CutShort, Record}
 
--- a record of this kind, whose body has so many bytes: its body begins after the kind, and ends where the next record begins
-abbrev pub wholeAt : (length at kind bytes : ℕ) → Found
-wholeAt length at kind bytes = if length below suc at + bytes then CutShort else Record kind (suc at) (suc at + bytes)
+-- in a book of so many bytes, a record of this kind, whose body has so many: its body begins after the kind, and ends where the next record begins
+abbrev pub wholeAt : (total at kind bytes : ℕ) → Found
+wholeAt total at kind bytes = if total below suc at + bytes then CutShort else Record kind (suc at) (suc at + bytes)
 
 -- the end, 1, 2, or a record: its kind, where its body begins, and where it ends
 unfoldable pub standsAt : List ℕ → ℕ → Found

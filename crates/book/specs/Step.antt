@@ -18,7 +18,7 @@ use Rattle.arrays.specs.Rooms.{curvedBy}
 use Rattle.arrays.specs.Kept.{Arrays, withRecord}
 use Rattle.book.specs.declared.masks.Masks.{Masks}
 use Rattle.book.specs.declared.step.Step.{Step}
-use Rattle.book.specs.declared.step.Step.the-variants.{End, On, Refused}
+use Rattle.book.specs.declared.step.Step.the-variants.{On, Refused, End}
 
 -- a currency joined to a set
 abbrev pub withCurrency : ℕ → ℕ → ℕ

@@ -8,11 +8,11 @@ use crate::masks::with_currency;
 use paper::Refusal;
 use posting::Slotted;
 
-// The book is at its end; or a record is taken, and the walk goes on at the next with these masks; or it is refused.
+// A record is taken, and the walk goes on at the next with these masks; or it is refused; or the book is at its end.
 pub enum Step {
-    End,
     On(usize, Masks),
     Refused(Refusal),
+    End,
 }
 
 // A position let in by 14 marks its currency as used.
