@@ -42,15 +42,23 @@ pub fn assess_records(book: &[u8], tier1: u64, report: &mut [i64], ledger: &mut 
             clear(ledger);
             Assessed::Refused(cause, place)
         }
-        Walked::All(m) => {
-            let missing = lowest_missing(m);
+        Walked::All(masks) => {
+            let missing = lowest_missing(masks);
             if missing <= 8 {
                 clear(ledger);
                 return Assessed::Refused(Refusal::NoCurve, missing as usize);
             }
             let factors = table();
-            fill_report(ledger, &rates, &addons, m.curved, tier1, &factors, report);
-            Assessed::Reported(m.curved)
+            fill_report(
+                ledger,
+                &rates,
+                &addons,
+                masks.curved,
+                tier1,
+                &factors,
+                report,
+            );
+            Assessed::Reported(masks.curved)
         }
     }
 }

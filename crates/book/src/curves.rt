@@ -17,33 +17,33 @@ use record::curves::decode_curve;
 use record::rates::rates_at;
 
 // A curve marks its currency as curved.
-pub fn curved_in(m: Masks, currency: u32) -> Masks
+pub fn curved_in(masks: Masks, currency: u32) -> Masks
     requires { ⌜ (1 ≤ currency) × (currency ≤ currencies) ⌝ }
-    ensures { λ r. ⌜ r ≡ curvedIn m currency ⌝ }
+    ensures { λ r. ⌜ r ≡ curvedIn masks currency ⌝ }
 {
-    let curved = with_currency(m.curved, currency);
+    let curved = with_currency(masks.curved, currency);
     Masks {
-        used: m.used,
+        used: masks.used,
         curved,
     }
 }
 
-pub fn take_curve(body: &[u8], next: usize, m: Masks, rates: &mut [i64]) -> Step
+pub fn take_curve(body: &[u8], next: usize, masks: Masks, rates: &mut [i64]) -> Step
     requires { ⌜ length (now body) ≡ 83 ⌝ }
-    requires { ⌜ RateArrays (m .curved) (now rates) ⌝ }
-    ensures { λ r. ⌜ CurveTaken (placed 0 (decodeCurve (curvedBy (m .curved)) (now (body .entry)))) next m (now (rates .entry)) r (now (rates .exit)) ⌝ }
+    requires { ⌜ RateArrays (masks .curved) (now rates) ⌝ }
+    ensures { λ r. ⌜ CurveTaken (placed 0 (decodeCurve (curvedBy (masks .curved)) (now (body .entry)))) next masks (now (rates .entry)) r (now (rates .exit)) ⌝ }
 {
-    match decode_curve(body, m.curved) {
+    match decode_curve(body, masks.curved) {
         DecodedCurve::Refused(cause) => Step::Refused(cause),
-        DecodedCurve::Is(s) => {
+        DecodedCurve::Is(fields) => {
             let mut base = [0i64; 19];
             rates_at(body, &mut base);
-            let part = part_of(s.currency);
+            let part = part_of(fields.currency);
             let cell = 133 * part;
             let cells = cell + 133;
-            let shocks = s.shocks;
+            let shocks = fields.shocks;
             fill_section(&base, shocks, &mut rates[cell..cells]);
-            Step::On(next, curved_in(m, s.currency))
+            Step::On(next, curved_in(masks, fields.currency))
         }
     }
 }

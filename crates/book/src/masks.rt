@@ -18,8 +18,8 @@ pub fn with_currency(mask: u32, currency: u32) -> u32
 }
 
 // The lowest currency used without a curve; 33 where there is none.
-pub fn lowest_missing(m: Masks) -> u32
-    ensures { λ r. ⌜ r ≡ lowestMissing m ⌝ }
+pub fn lowest_missing(masks: Masks) -> u32
+    ensures { λ r. ⌜ r ≡ lowestMissing masks ⌝ }
 {
-    u32::trailing_zeros(m.used & !m.curved) + 1
+    u32::trailing_zeros(masks.used & !masks.curved) + 1
 }

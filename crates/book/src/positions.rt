@@ -42,24 +42,24 @@ pub fn part_of(currency: u32) -> usize
 pub fn take_single(
     body: &[u8],
     next: usize,
-    m: Masks,
+    masks: Masks,
     ledger: &mut [i64],
     sizes: &mut [u64],
 ) -> Step
     requires { ⌜ length (now body) ≡ 9 ⌝ }
     requires { ⌜ FlowArrays (now ledger) (now sizes) ⌝ }
-    ensures { λ r. ⌜ FlowsTaken (placed 0 (decodeSingle (now (body .entry)))) next m (now (ledger .entry)) (now (sizes .entry)) r (now (ledger .exit)) (now (sizes .exit)) ⌝ }
+    ensures { λ r. ⌜ FlowsTaken (placed 0 (decodeSingle (now (body .entry)))) next masks (now (ledger .entry)) (now (sizes .entry)) r (now (ledger .exit)) (now (sizes .exit)) ⌝ }
 {
     match decode_single(body) {
         DecodedSingle::Refused(cause) => Step::Refused(cause),
-        DecodedSingle::Is(s) => {
-            let part = part_of(s.currency);
+        DecodedSingle::Is(fields) => {
+            let part = part_of(fields.currency);
             let cell = 133 * part;
             let cells = cell + 133;
             let size = 7 * part;
             let sums = size + 7;
-            let answer = slot_single(s, &mut ledger[cell..cells], &mut sizes[size..sums]);
-            slotted_step(answer, next, m, s.currency)
+            let answer = slot_single(fields, &mut ledger[cell..cells], &mut sizes[size..sums]);
+            slotted_step(answer, next, masks, fields.currency)
         }
     }
 }
@@ -67,24 +67,24 @@ pub fn take_single(
 pub fn take_coupons(
     body: &[u8],
     next: usize,
-    m: Masks,
+    masks: Masks,
     ledger: &mut [i64],
     sizes: &mut [u64],
 ) -> Step
     requires { ⌜ length (now body) ≡ 13 ⌝ }
     requires { ⌜ FlowArrays (now ledger) (now sizes) ⌝ }
-    ensures { λ r. ⌜ FlowsTaken (placed 0 (decodeCoupons (now (body .entry)))) next m (now (ledger .entry)) (now (sizes .entry)) r (now (ledger .exit)) (now (sizes .exit)) ⌝ }
+    ensures { λ r. ⌜ FlowsTaken (placed 0 (decodeCoupons (now (body .entry)))) next masks (now (ledger .entry)) (now (sizes .entry)) r (now (ledger .exit)) (now (sizes .exit)) ⌝ }
 {
     match decode_coupons(body) {
         DecodedCoupons::Refused(cause) => Step::Refused(cause),
-        DecodedCoupons::Is(s) => {
-            let part = part_of(s.currency);
+        DecodedCoupons::Is(fields) => {
+            let part = part_of(fields.currency);
             let cell = 133 * part;
             let cells = cell + 133;
             let size = 7 * part;
             let sums = size + 7;
-            let answer = slot_coupons(s, &mut ledger[cell..cells], &mut sizes[size..sums]);
-            slotted_step(answer, next, m, s.currency)
+            let answer = slot_coupons(fields, &mut ledger[cell..cells], &mut sizes[size..sums]);
+            slotted_step(answer, next, masks, fields.currency)
         }
     }
 }
@@ -92,24 +92,24 @@ pub fn take_coupons(
 pub fn take_floating(
     body: &[u8],
     next: usize,
-    m: Masks,
+    masks: Masks,
     ledger: &mut [i64],
     sizes: &mut [u64],
 ) -> Step
     requires { ⌜ length (now body) ≡ 13 ⌝ }
     requires { ⌜ FlowArrays (now ledger) (now sizes) ⌝ }
-    ensures { λ r. ⌜ FlowsTaken (placed 0 (decodeFloating (now (body .entry)))) next m (now (ledger .entry)) (now (sizes .entry)) r (now (ledger .exit)) (now (sizes .exit)) ⌝ }
+    ensures { λ r. ⌜ FlowsTaken (placed 0 (decodeFloating (now (body .entry)))) next masks (now (ledger .entry)) (now (sizes .entry)) r (now (ledger .exit)) (now (sizes .exit)) ⌝ }
 {
     match decode_floating(body) {
         DecodedFloating::Refused(cause) => Step::Refused(cause),
-        DecodedFloating::Is(s) => {
-            let part = part_of(s.currency);
+        DecodedFloating::Is(fields) => {
+            let part = part_of(fields.currency);
             let cell = 133 * part;
             let cells = cell + 133;
             let size = 7 * part;
             let sums = size + 7;
-            let answer = slot_floating(s, &mut ledger[cell..cells], &mut sizes[size..sums]);
-            slotted_step(answer, next, m, s.currency)
+            let answer = slot_floating(fields, &mut ledger[cell..cells], &mut sizes[size..sums]);
+            slotted_step(answer, next, masks, fields.currency)
         }
     }
 }
@@ -117,43 +117,59 @@ pub fn take_floating(
 pub fn take_deposit(
     body: &[u8],
     next: usize,
-    m: Masks,
+    masks: Masks,
     ledger: &mut [i64],
     sizes: &mut [u64],
 ) -> Step
     requires { ⌜ length (now body) ≡ 82 ⌝ }
     requires { ⌜ FlowArrays (now ledger) (now sizes) ⌝ }
-    ensures { λ r. ⌜ FlowsTaken (placed 0 (decodeDeposit (now (body .entry)))) next m (now (ledger .entry)) (now (sizes .entry)) r (now (ledger .exit)) (now (sizes .exit)) ⌝ }
+    ensures { λ r. ⌜ FlowsTaken (placed 0 (decodeDeposit (now (body .entry)))) next masks (now (ledger .entry)) (now (sizes .entry)) r (now (ledger .exit)) (now (sizes .exit)) ⌝ }
 {
     match decode_deposit(body) {
         DecodedDeposit::Refused(cause) => Step::Refused(cause),
-        DecodedDeposit::Is(s) => {
-            let part = part_of(s.currency);
+        DecodedDeposit::Is(fields) => {
+            let part = part_of(fields.currency);
             let cell = 133 * part;
             let cells = cell + 133;
             let size = 7 * part;
             let sums = size + 7;
-            let answer = slot_deposit(s, body, &mut ledger[cell..cells], &mut sizes[size..sums]);
-            slotted_step(answer, next, m, s.currency)
+            let answer = slot_deposit(
+                fields,
+                body,
+                &mut ledger[cell..cells],
+                &mut sizes[size..sums],
+            );
+            slotted_step(answer, next, masks, fields.currency)
         }
     }
 }
 
-pub fn take_loan(body: &[u8], next: usize, m: Masks, ledger: &mut [i64], sizes: &mut [u64]) -> Step
+pub fn take_loan(
+    body: &[u8],
+    next: usize,
+    masks: Masks,
+    ledger: &mut [i64],
+    sizes: &mut [u64],
+) -> Step
     requires { ⌜ length (now body) ≡ 155 ⌝ }
     requires { ⌜ FlowArrays (now ledger) (now sizes) ⌝ }
-    ensures { λ r. ⌜ FlowsTaken (placed 0 (decodeLoan (now (body .entry)))) next m (now (ledger .entry)) (now (sizes .entry)) r (now (ledger .exit)) (now (sizes .exit)) ⌝ }
+    ensures { λ r. ⌜ FlowsTaken (placed 0 (decodeLoan (now (body .entry)))) next masks (now (ledger .entry)) (now (sizes .entry)) r (now (ledger .exit)) (now (sizes .exit)) ⌝ }
 {
     match decode_loan(body) {
         DecodedLoan::Refused(cause) => Step::Refused(cause),
-        DecodedLoan::Is(s) => {
-            let part = part_of(s.currency);
+        DecodedLoan::Is(fields) => {
+            let part = part_of(fields.currency);
             let cell = 133 * part;
             let cells = cell + 133;
             let size = 7 * part;
             let sums = size + 7;
-            let answer = slot_loan(s, body, &mut ledger[cell..cells], &mut sizes[size..sums]);
-            slotted_step(answer, next, m, s.currency)
+            let answer = slot_loan(
+                fields,
+                body,
+                &mut ledger[cell..cells],
+                &mut sizes[size..sums],
+            );
+            slotted_step(answer, next, masks, fields.currency)
         }
     }
 }
@@ -161,29 +177,29 @@ pub fn take_loan(body: &[u8], next: usize, m: Masks, ledger: &mut [i64], sizes: 
 pub fn take_term_deposit(
     body: &[u8],
     next: usize,
-    m: Masks,
+    masks: Masks,
     ledger: &mut [i64],
     sizes: &mut [u64],
 ) -> Step
     requires { ⌜ length (now body) ≡ 79 ⌝ }
     requires { ⌜ FlowArrays (now ledger) (now sizes) ⌝ }
-    ensures { λ r. ⌜ FlowsTaken (placed 0 (decodeTermDeposit (now (body .entry)))) next m (now (ledger .entry)) (now (sizes .entry)) r (now (ledger .exit)) (now (sizes .exit)) ⌝ }
+    ensures { λ r. ⌜ FlowsTaken (placed 0 (decodeTermDeposit (now (body .entry)))) next masks (now (ledger .entry)) (now (sizes .entry)) r (now (ledger .exit)) (now (sizes .exit)) ⌝ }
 {
     match decode_term_deposit(body) {
         DecodedTermDeposit::Refused(cause) => Step::Refused(cause),
-        DecodedTermDeposit::Is(s) => {
-            let part = part_of(s.currency);
+        DecodedTermDeposit::Is(fields) => {
+            let part = part_of(fields.currency);
             let cell = 133 * part;
             let cells = cell + 133;
             let size = 7 * part;
             let sums = size + 7;
             let answer = slot_term_deposit(
-                s,
+                fields,
                 body,
                 &mut ledger[cell..cells],
                 &mut sizes[size..sums],
             );
-            slotted_step(answer, next, m, s.currency)
+            slotted_step(answer, next, masks, fields.currency)
         }
     }
 }
@@ -192,22 +208,26 @@ pub fn take_term_deposit(
 pub fn take_option(
     body: &[u8],
     next: usize,
-    m: Masks,
+    masks: Masks,
     options: &mut [u64],
     addons: &mut [i64],
 ) -> Step
     requires { ⌜ length (now body) ≡ 26 ⌝ }
     requires { ⌜ OptionArrays (now options) (now addons) ⌝ }
-    ensures { λ r. ⌜ OptionTaken (placed 0 (decodeOption (now (body .entry)))) next m (now (options .entry)) (now (addons .entry)) r (now (options .exit)) (now (addons .exit)) ⌝ }
+    ensures { λ r. ⌜ OptionTaken (placed 0 (decodeOption (now (body .entry)))) next masks (now (options .entry)) (now (addons .entry)) r (now (options .exit)) (now (addons .exit)) ⌝ }
 {
     match decode_option(body) {
         DecodedOption::Refused(cause) => Step::Refused(cause),
-        DecodedOption::Is(s) => {
-            let part = part_of(s.currency);
+        DecodedOption::Is(fields) => {
+            let part = part_of(fields.currency);
             let value = 6 * part;
             let values = value + 6;
-            let answer = slot_option(s, &mut options[value..values], &mut addons[value..values]);
-            slotted_step(answer, next, m, s.currency)
+            let answer = slot_option(
+                fields,
+                &mut options[value..values],
+                &mut addons[value..values],
+            );
+            slotted_step(answer, next, masks, fields.currency)
         }
     }
 }

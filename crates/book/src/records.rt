@@ -25,7 +25,7 @@ pub fn take_body(
     kind: u8,
     body: &[u8],
     next: usize,
-    m: Masks,
+    masks: Masks,
     ledger: &mut [i64],
     rates: &mut [i64],
     addons: &mut [i64],
@@ -33,18 +33,18 @@ pub fn take_body(
     options: &mut [u64],
 ) -> Step
     requires { ⌜ length (now body) ≡ bodyLength kind ⌝ }
-    requires { ⌜ Holding m (arraysAs (now ledger) (now rates) (now addons) (now sizes) (now options)) ⌝ }
-    ensures { λ r. ⌜ Stepped (placed 0 (admitted (soFarBy (m .curved) (now (sizes .entry)) (now (options .entry))) kind (now (body .entry)))) next m (arraysAs (now (ledger .entry)) (now (rates .entry)) (now (addons .entry)) (now (sizes .entry)) (now (options .entry))) r (arraysAs (now (ledger .exit)) (now (rates .exit)) (now (addons .exit)) (now (sizes .exit)) (now (options .exit))) ⌝ }
+    requires { ⌜ Holding masks (arraysAs (now ledger) (now rates) (now addons) (now sizes) (now options)) ⌝ }
+    ensures { λ r. ⌜ Stepped (placed 0 (admitted (soFarBy (masks .curved) (now (sizes .entry)) (now (options .entry))) kind (now (body .entry)))) next masks (arraysAs (now (ledger .entry)) (now (rates .entry)) (now (addons .entry)) (now (sizes .entry)) (now (options .entry))) r (arraysAs (now (ledger .exit)) (now (rates .exit)) (now (addons .exit)) (now (sizes .exit)) (now (options .exit))) ⌝ }
 {
     match kind {
-        1 => take_single(body, next, m, ledger, sizes),
-        2 => take_coupons(body, next, m, ledger, sizes),
-        3 => take_floating(body, next, m, ledger, sizes),
-        4 => take_deposit(body, next, m, ledger, sizes),
-        5 => take_loan(body, next, m, ledger, sizes),
-        6 => take_term_deposit(body, next, m, ledger, sizes),
-        7 => take_option(body, next, m, options, addons),
-        8 => take_curve(body, next, m, rates),
+        1 => take_single(body, next, masks, ledger, sizes),
+        2 => take_coupons(body, next, masks, ledger, sizes),
+        3 => take_floating(body, next, masks, ledger, sizes),
+        4 => take_deposit(body, next, masks, ledger, sizes),
+        5 => take_loan(body, next, masks, ledger, sizes),
+        6 => take_term_deposit(body, next, masks, ledger, sizes),
+        7 => take_option(body, next, masks, options, addons),
+        8 => take_curve(body, next, masks, rates),
         _ => Step::Refused(Refusal::UnknownKind),
     }
 }
@@ -53,15 +53,15 @@ pub fn take_body(
 pub fn step(
     book: &[u8],
     at: usize,
-    m: Masks,
+    masks: Masks,
     ledger: &mut [i64],
     rates: &mut [i64],
     addons: &mut [i64],
     sizes: &mut [u64],
     options: &mut [u64],
 ) -> Step
-    requires { ⌜ Holding m (arraysAs (now ledger) (now rates) (now addons) (now sizes) (now options)) ⌝ }
-    ensures { λ r. ⌜ Turned (length (now (book .entry)) upTo at) (recordAt (soFarBy (m .curved) (now (sizes .entry)) (now (options .entry))) (now (book .entry)) at) (nextAt (now (book .entry)) at) m (arraysAs (now (ledger .entry)) (now (rates .entry)) (now (addons .entry)) (now (sizes .entry)) (now (options .entry))) r (arraysAs (now (ledger .exit)) (now (rates .exit)) (now (addons .exit)) (now (sizes .exit)) (now (options .exit))) ⌝ }
+    requires { ⌜ Holding masks (arraysAs (now ledger) (now rates) (now addons) (now sizes) (now options)) ⌝ }
+    ensures { λ r. ⌜ Turned (length (now (book .entry)) upTo at) (recordAt (soFarBy (masks .curved) (now (sizes .entry)) (now (options .entry))) (now (book .entry)) at) (nextAt (now (book .entry)) at) masks (arraysAs (now (ledger .entry)) (now (rates .entry)) (now (addons .entry)) (now (sizes .entry)) (now (options .entry))) r (arraysAs (now (ledger .exit)) (now (rates .exit)) (now (addons .exit)) (now (sizes .exit)) (now (options .exit))) ⌝ }
 {
     match found_at(book, at) {
         Found::End => Step::End,
@@ -71,7 +71,7 @@ pub fn step(
             kind,
             &book[start..next],
             next,
-            m,
+            masks,
             ledger,
             rates,
             addons,

@@ -16,18 +16,18 @@ pub enum Step {
 }
 
 // A position let in by 14 marks its currency as used.
-pub fn slotted_step(answer: Slotted, next: usize, m: Masks, currency: u32) -> Step
+pub fn slotted_step(answer: Slotted, next: usize, masks: Masks, currency: u32) -> Step
     requires { ⌜ (1 ≤ currency) × (currency ≤ currencies) ⌝ }
-    ensures { λ r. ⌜ r ≡ slottedStep answer next m currency ⌝ }
+    ensures { λ r. ⌜ r ≡ slottedStep answer next masks currency ⌝ }
 {
     match answer {
         Slotted::Done => {
-            let used = with_currency(m.used, currency);
+            let used = with_currency(masks.used, currency);
             Step::On(
                 next,
                 Masks {
                     used,
-                    curved: m.curved,
+                    curved: masks.curved,
                 },
             )
         }

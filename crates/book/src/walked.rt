@@ -30,18 +30,18 @@ pub fn walk(
     ensures { λ r. ⌜ Walks (now (book .entry)) r (arraysAs (now (ledger .exit)) (now (rates .exit)) (now (addons .exit)) (now (sizes .exit)) (now (options .exit))) ⌝ }
 {
     let mut at = 0;
-    let mut m = Masks { used: 0, curved: 0 };
+    let mut masks = Masks { used: 0, curved: 0 };
     loop {
-        match step(book, at, m, ledger, rates, addons, sizes, options) {
+        match step(book, at, masks, ledger, rates, addons, sizes, options) {
             Step::End => {
-                return Walked::All(m);
+                return Walked::All(masks);
             }
             Step::Refused(cause) => {
                 return Walked::Refused(cause, at);
             }
             Step::On(next, marks) => {
                 at = next;
-                m = marks;
+                masks = marks;
             }
         }
     }

@@ -36,5 +36,6 @@ pub mod Sections
 pub mod Joined
 -- a list filled from the front
 pub mod Fill
+pub mod Filled
 -- the binary digits of masks
 pub mod Digits

@@ -14,7 +14,8 @@ use Rattle.paper.specs.Records.{deposit, termDeposit, flows}
 use Rattle.paper.specs.Behaviour.{depositFlow, moved, withdrawalRate, termDepositFlow}
 use Rattle.paper.specs.Flow.{sided, flowOf, flow}
 use Rattle.paper.proofs.Deposits.{deposit-adds-up, term-deposit-adds-up}
-use Rattle.posting.proofs.Loops.{Filled, raised}
+use Rattle.laws.proofs.Filled.{Filled}
+use Rattle.posting.proofs.Loops.{raised}
 
 -- ---- kind 4
 

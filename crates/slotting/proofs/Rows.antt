@@ -18,7 +18,8 @@ use Rattle.paper.specs.Flow.{scenarios, sided, flow, magnitude}
 use Rattle.paper.specs.Ledger.{sectionSize}
 use Rattle.posting.specs.declared.Slotted.{Slotted}
 use Rattle.posting.specs.Parts.{AtMost, FlowParts, Entered}
-use Rattle.posting.proofs.Loops.{Filled, filled-none, filled-part, tabulate-all}
+use Rattle.laws.proofs.Filled.{Filled, filled-none, filled-part}
+use Rattle.posting.proofs.Loops.{tabulate-all}
 use Rattle.slotting.specs.Parts.{FlowsSlotted}
 use Rattle.slotting.proofs.Entered.{entered-slotted}
 

@@ -68,13 +68,19 @@ fn coupon_row(period: u32, count: u32, coupon: u32, principal: u32, row: &mut [u
     row[last] += principal as u64;
 }
 
-pub fn slot_coupons(s: Coupons, section: &mut [i64], sizes: &mut [u64]) -> Slotted
-    requires { ⌜ SoundFlows (couponsOf s) ⌝ }
+pub fn slot_coupons(fields: Coupons, section: &mut [i64], sizes: &mut [u64]) -> Slotted
+    requires { ⌜ SoundFlows (couponsOf fields) ⌝ }
     requires { ⌜ FlowParts (now section) (now sizes) ⌝ }
-    ensures { λ r. ⌜ FlowsSlotted (flows (s .currency) (couponsOf s)) (now (section .entry)) (now (sizes .entry)) r (now (section .exit)) (now (sizes .exit)) ⌝ }
+    ensures { λ r. ⌜ FlowsSlotted (flows (fields .currency) (couponsOf fields)) (now (section .entry)) (now (sizes .entry)) r (now (section .exit)) (now (sizes .exit)) ⌝ }
 {
-    let size = (s.count as u64) * (s.coupon as u64) + s.principal as u64;
+    let size = (fields.count as u64) * (fields.coupon as u64) + fields.principal as u64;
     let mut row = [0u64; 19];
-    coupon_row(s.period, s.count, s.coupon, s.principal, &mut row);
-    enter_row(&row, s.side, size, section, sizes)
+    coupon_row(
+        fields.period,
+        fields.count,
+        fields.coupon,
+        fields.principal,
+        &mut row,
+    );
+    enter_row(&row, fields.side, size, section, sizes)
 }

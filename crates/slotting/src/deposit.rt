@@ -33,12 +33,12 @@ fn core_row(body: &[u8], total: u64, row: &mut [u64])
     row[0] += rest;
 }
 
-pub fn slot_deposit(d: Deposit, body: &[u8], section: &mut [i64], sizes: &mut [u64]) -> Slotted
-    requires { ⌜ (length (now body) ≡ 82) × SoundFlows (depositOf d (now body)) ⌝ }
+pub fn slot_deposit(fields: Deposit, body: &[u8], section: &mut [i64], sizes: &mut [u64]) -> Slotted
+    requires { ⌜ (length (now body) ≡ 82) × SoundFlows (depositOf fields (now body)) ⌝ }
     requires { ⌜ FlowParts (now section) (now sizes) ⌝ }
-    ensures { λ r. ⌜ FlowsSlotted (flows (d .currency) (depositOf d (now (body .entry)))) (now (section .entry)) (now (sizes .entry)) r (now (section .exit)) (now (sizes .exit)) ⌝ }
+    ensures { λ r. ⌜ FlowsSlotted (flows (fields .currency) (depositOf fields (now (body .entry)))) (now (section .entry)) (now (sizes .entry)) r (now (section .exit)) (now (sizes .exit)) ⌝ }
 {
-    let total = d.total as u64;
+    let total = fields.total as u64;
     let mut row = [0u64; 19];
     core_row(body, total, &mut row);
     enter_row(&row, 2, total, section, sizes)

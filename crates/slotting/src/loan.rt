@@ -93,10 +93,10 @@ fn loan_row(body: &[u8], rate: u64, principal: u64, row: &mut [u64]) -> u64
     while k < 19 {
         let scheduled = amount_of(body, 3, k);
         let charge = amount_of(body, 79, k);
-        let s = bucket_step(rate, scheduled, charge, outstanding, remaining);
-        row[k] = s.flow;
-        total += s.flow;
-        outstanding = s.left;
+        let step = bucket_step(rate, scheduled, charge, outstanding, remaining);
+        row[k] = step.flow;
+        total += step.flow;
+        outstanding = step.left;
         remaining -= scheduled;
         k += 1;
     }
@@ -122,13 +122,13 @@ fn loan_flows(body: &[u8], share: u32, flows: &mut [u64], more: &mut [u64])
     }
 }
 
-pub fn slot_loan(l: Loan, body: &[u8], section: &mut [i64], sizes: &mut [u64]) -> Slotted
-    requires { ⌜ (length (now body) ≡ 155) × SoundFlows (loanOf l (now body)) ⌝ }
+pub fn slot_loan(fields: Loan, body: &[u8], section: &mut [i64], sizes: &mut [u64]) -> Slotted
+    requires { ⌜ (length (now body) ≡ 155) × SoundFlows (loanOf fields (now body)) ⌝ }
     requires { ⌜ FlowParts (now section) (now sizes) ⌝ }
-    ensures { λ r. ⌜ FlowsSlotted (flows (l .currency) (loanOf l (now (body .entry)))) (now (section .entry)) (now (sizes .entry)) r (now (section .exit)) (now (sizes .exit)) ⌝ }
+    ensures { λ r. ⌜ FlowsSlotted (flows (fields .currency) (loanOf fields (now (body .entry)))) (now (section .entry)) (now (sizes .entry)) r (now (section .exit)) (now (sizes .exit)) ⌝ }
 {
     let mut flows = [0u64; 133];
     let mut more = [0u64; 7];
-    loan_flows(body, l.share, &mut flows, &mut more);
+    loan_flows(body, fields.share, &mut flows, &mut more);
     enter(&flows, 1, &more, section, sizes)
 }

@@ -46,23 +46,23 @@ fn add_values(addons: &mut [i64], side: u32, values: &[i64])
     }
 }
 
-pub fn slot_option(o: OptionAddOn, sizes: &mut [u64], addons: &mut [i64]) -> Slotted
-    requires { ⌜ Listed Small 6 (valuesOf o) ⌝ }
+pub fn slot_option(fields: OptionAddOn, sizes: &mut [u64], addons: &mut [i64]) -> Slotted
+    requires { ⌜ Listed Small 6 (valuesOf fields) ⌝ }
     requires { ⌜ OptionParts (now sizes) (now addons) ⌝ }
-    ensures { λ r. ⌜ OptionSlotted (option (o .currency) (o .side) (valuesOf o)) (now (sizes .entry)) (now (addons .entry)) r (now (sizes .exit)) (now (addons .exit)) ⌝ }
+    ensures { λ r. ⌜ OptionSlotted (option (fields .currency) (fields .side) (valuesOf fields)) (now (sizes .entry)) (now (addons .entry)) r (now (sizes .exit)) (now (addons .exit)) ⌝ }
 {
     let values = [
-        o.up,
-        o.down,
-        o.steepener,
-        o.flattener,
-        o.short_up,
-        o.short_down,
+        fields.up,
+        fields.down,
+        fields.steepener,
+        fields.flattener,
+        fields.short_up,
+        fields.short_down,
     ];
     let mut more = [0u64; 6];
     magnitudes(&values, &mut more);
     if admits(sizes, &more) {
-        add_values(addons, o.side, &values);
+        add_values(addons, fields.side, &values);
         return Slotted::Done;
     }
     Slotted::OverLimit

@@ -39,25 +39,32 @@ fn slot_due(
     Slotted::OverLimit
 }
 
-pub fn slot_single(s: Single, section: &mut [i64], sizes: &mut [u64]) -> Slotted
-    requires { ⌜ SoundFlows (singleOf s) ⌝ }
+pub fn slot_single(fields: Single, section: &mut [i64], sizes: &mut [u64]) -> Slotted
+    requires { ⌜ SoundFlows (singleOf fields) ⌝ }
     requires { ⌜ FlowParts (now section) (now sizes) ⌝ }
-    ensures { λ r. ⌜ FlowsSlotted (flows (s .currency) (singleOf s)) (now (section .entry)) (now (sizes .entry)) r (now (section .exit)) (now (sizes .exit)) ⌝ }
+    ensures { λ r. ⌜ FlowsSlotted (flows (fields .currency) (singleOf fields)) (now (section .entry)) (now (sizes .entry)) r (now (section .exit)) (now (sizes .exit)) ⌝ }
 {
-    slot_due(s.side, s.months, s.days, s.amount, section, sizes)
+    slot_due(
+        fields.side,
+        fields.months,
+        fields.days,
+        fields.amount,
+        section,
+        sizes,
+    )
 }
 
 // Principal and coupon both fall at the reset.
-pub fn slot_floating(f: Floating, section: &mut [i64], sizes: &mut [u64]) -> Slotted
-    requires { ⌜ SoundFlows (floatingOf f) ⌝ }
+pub fn slot_floating(fields: Floating, section: &mut [i64], sizes: &mut [u64]) -> Slotted
+    requires { ⌜ SoundFlows (floatingOf fields) ⌝ }
     requires { ⌜ FlowParts (now section) (now sizes) ⌝ }
-    ensures { λ r. ⌜ FlowsSlotted (flows (f .currency) (floatingOf f)) (now (section .entry)) (now (sizes .entry)) r (now (section .exit)) (now (sizes .exit)) ⌝ }
+    ensures { λ r. ⌜ FlowsSlotted (flows (fields .currency) (floatingOf fields)) (now (section .entry)) (now (sizes .entry)) r (now (section .exit)) (now (sizes .exit)) ⌝ }
 {
     slot_due(
-        f.side,
-        f.months,
-        f.days,
-        f.principal + f.coupon,
+        fields.side,
+        fields.months,
+        fields.days,
+        fields.principal + fields.coupon,
         section,
         sizes,
     )

@@ -63,17 +63,17 @@ fn withdrawn_flows(body: &[u8], share: u32, flows: &mut [u64])
 }
 
 pub fn slot_term_deposit(
-    d: TermDeposit,
+    fields: TermDeposit,
     body: &[u8],
     section: &mut [i64],
     sizes: &mut [u64],
 ) -> Slotted
-    requires { ⌜ (length (now body) ≡ 79) × SoundFlows (termDepositOf d (now body)) ⌝ }
+    requires { ⌜ (length (now body) ≡ 79) × SoundFlows (termDepositOf fields (now body)) ⌝ }
     requires { ⌜ FlowParts (now section) (now sizes) ⌝ }
-    ensures { λ r. ⌜ FlowsSlotted (flows (d .currency) (termDepositOf d (now (body .entry)))) (now (section .entry)) (now (sizes .entry)) r (now (section .exit)) (now (sizes .exit)) ⌝ }
+    ensures { λ r. ⌜ FlowsSlotted (flows (fields .currency) (termDepositOf fields (now (body .entry)))) (now (section .entry)) (now (sizes .entry)) r (now (section .exit)) (now (sizes .exit)) ⌝ }
 {
     let more = [sum_from(body, 3); 7];
     let mut flows = [0u64; 133];
-    withdrawn_flows(body, d.share, &mut flows);
+    withdrawn_flows(body, fields.share, &mut flows);
     enter(&flows, 2, &more, section, sizes)
 }

@@ -31,8 +31,8 @@ enum-known-cause c = search needs
 clear-requires-2 : tie.Need-clear-requires-2
 clear-requires-2 c κs = search needs
 
-enum-known-m : tie.Need-enum-known-m
-enum-known-m c = search needs
+enum-known-masks : tie.Need-enum-known-masks
+enum-known-masks c = search needs
 
 lowest-missing-requires : tie.Need-lowest-missing-requires
 lowest-missing-requires c κs = search needs
@@ -49,7 +49,7 @@ same-length c = search needs
 returns : tie.Need-returns
 returns c =
     let start = c .before .before .before .before .before .before .before .before .before .before .before .before .before .before .before .before .before .before .before .before .before .before .before in
-    let all = c .before .before .before .before .before .before .before .before .before .before .before .before .before .walk .ensures .all _ (c .before .before .before .before .before .before .m .given .1) in
+    let all = c .before .before .before .before .before .before .before .before .before .before .before .before .before .walk .ensures .all _ (c .before .before .before .before .before .before .masks .given .1) in
     answers-missing _ _ _ _ (start .pre .1 .1) _ _ all (c .before .before .before .before .before .before .before .before .before .before .before .before .before .walk .last .1 .0) _ _ (c .before .before .before .before .lowest-missing .ensures) (omega arith) (all-holds _ (start .args .tier1) (start .args .report .now) (start .args .ledger .now) (start .pre .1 .1) _ _ all .ledger-long) (c .before .clear3 .ensures)
 
 table-requires : tie.Need-table-requires
@@ -64,7 +64,7 @@ slice-aggregate-fill-report-2 c = search needs
 fill-report-requires : tie.Need-fill-report-requires
 fill-report-requires c κs =
     let start = c .before .before .before .before .before .before .before .before .before .before .before .before .before .before .before .before .before .before .before .before .before .before .before .before .before .before in
-    let all = c .before .before .before .before .before .before .before .before .before .before .before .before .before .before .before .before .walk .ensures .all _ (c .before .before .before .before .before .before .before .before .before .m .given .1) in
+    let all = c .before .before .before .before .before .before .before .before .before .before .before .before .before .before .before .before .walk .ensures .all _ (c .before .before .before .before .before .before .before .before .before .masks .given .1) in
     let held = all-holds _ (start .args .tier1) (start .args .report .now) (start .args .ledger .now) (start .pre .1 .1) _ _ all in
     ((held .ledger-long, held .rates-long, held .addOns-long, start .pre .1 .0), ((start .pre .0 .1, c .before .before .before .before .before .table .ensures), bounds-hold _ (start .args .tier1) (start .args .report .now) (start .args .ledger .now) (start .pre .1 .1) _ _ all _ (c .before .before .before .before .before .before .before .lowest-missing .ensures) (omega arith)))
 
@@ -85,7 +85,7 @@ same-length-4 c = search needs
 returns-3 : tie.Need-returns-3
 returns-3 c =
     let start = c .before .before .before .before .before .before .before .before .before .before .before .before .before .before .before .before .before .before .before .before .before .before .before .before .before .before .before .before in
-    let all = c .before .before .before .before .before .before .before .before .before .before .before .before .before .before .before .before .before .before .walk .ensures .all _ (c .before .before .before .before .before .before .before .before .before .before .before .m .given .1) in
+    let all = c .before .before .before .before .before .before .before .before .before .before .before .before .before .before .before .before .before .before .walk .ensures .all _ (c .before .before .before .before .before .before .before .before .before .before .before .masks .given .1) in
     rw (c .before .fill-report .ensures) (answers-reported _ _ _ _ (start .pre .1 .1) _ _ all _ (c .before .before .before .before .before .before .before .before .before .lowest-missing .ensures) (omega arith) (start .pre .1 .0))
 
 pub assess-records-spec : {M : Type 1} → statement M
@@ -100,7 +100,7 @@ assess-records-spec =
     walk-requires
     enum-known-cause
     clear-requires-2
-    enum-known-m
+    enum-known-masks
     lowest-missing-requires
     clear-requires-3
     cast-t37

@@ -28,13 +28,13 @@ module _ (c : tie.After-known-told2) where
   body = c .before .before .before .before .before .args .body .now
 
   abbrev curved : ℕ → Bool
-  curved = curvedBy (c .before .before .before .before .before .args .m .curved)
+  curved = curvedBy (c .before .before .before .before .before .args .masks .curved)
 
-  decoded : placed 0 (decodeCurve curved body) ≡ accepted (curve (c .before .s .given .0 .0 .currency) (curveOf (ratesFrom body) (c .before .s .given .0 .0 .shocks)))
+  decoded : placed 0 (decodeCurve curved body) ≡ accepted (curve (c .before .fields .given .0 .0 .currency) (curveOf (ratesFrom body) (c .before .fields .given .0 .0 .shocks)))
   unfolding curveRead
-  decoded = sym (c .before .before .before .decode-curve .ensures) ∙ ap (curveRead body) (c .before .s .given .1)
+  decoded = sym (c .before .before .before .decode-curve .ensures) ∙ ap (curveRead body) (c .before .fields .given .1)
 
-  sound : Between 1 currencies (c .before .s .given .0 .0 .currency) × SoundCurve curved (c .before .s .given .0 .0 .currency) (curveOf (ratesFrom body) (c .before .s .given .0 .0 .shocks))
+  sound : Between 1 currencies (c .before .fields .given .0 .0 .currency) × SoundCurve curved (c .before .fields .given .0 .0 .currency) (curveOf (ratesFrom body) (c .before .fields .given .0 .0 .shocks))
   unfolding Sound
   sound = known-of (placed-known 0 (curve-sound curved body)) _ decoded
 
@@ -47,8 +47,8 @@ decode-curve-requires c κs = search needs
 enum-known-cause : tie.Need-enum-known-cause
 enum-known-cause c = search needs
 
-enum-known-s : tie.Need-enum-known-s
-enum-known-s c = search needs
+enum-known-fields : tie.Need-enum-known-fields
+enum-known-fields c = search needs
 
 slice-aggregate-rates-at : tie.Need-slice-aggregate-rates-at
 slice-aggregate-rates-at c = search needs
@@ -114,7 +114,7 @@ returns-2 c =
     let known = sound w in
     let base = f .before .before .before .before .before .before .rates-at .ensures .1 ∙ base-is (body w) _ (good w) refl in
     curve-returned _ _ (known .0 .from) (known .0 .to) _ (f .before .before .before .before .part-of .ensures) _ _ (decoded w) _ (w .before .before .before .before .before .pre .1) (known .1 .fresh)
-    (f .fill-section .ensures ∙ ap (λ (l : List ℤ). shockedSection (curveOf l (w .before .s .given .0 .0 .shocks))) base) (c .curved-in .ensures)
+    (f .fill-section .ensures ∙ ap (λ (l : List ℤ). shockedSection (curveOf l (w .before .fields .given .0 .0 .shocks))) base) (c .curved-in .ensures)
 
 pub take-curve-spec : {M : Type 1} → statement M
 take-curve-spec =
@@ -122,7 +122,7 @@ take-curve-spec =
     (tie.spec
     decode-curve-requires
     enum-known-cause
-    enum-known-s
+    enum-known-fields
     slice-aggregate-rates-at
     rates-at-requires
     part-of-requires

@@ -20,13 +20,13 @@ use Rattle.book.proofs.positions.take_floating.Tie as tie
 -- what is known once the body has been read
 module _ (c : tie.After-known-told2) where
   read : placed 0 (decodeFloating (c .before .before .before .before .before .before .args .body .now))
-      ≡ accepted (flows ((c .before .s .given .0 .0) .currency) (floatingOf (c .before .s .given .0 .0)))
+      ≡ accepted (flows ((c .before .fields .given .0 .0) .currency) (floatingOf (c .before .fields .given .0 .0)))
   unfolding floatingRead
   read =
       let d = c .before .before .before in
-      sym (d .decode-floating .ensures) ∙ ap floatingRead (c .before .s .given .1)
+      sym (d .decode-floating .ensures) ∙ ap floatingRead (c .before .fields .given .1)
 
-  sound : Between 1 currencies ((c .before .s .given .0 .0) .currency) × SoundFlows (floatingOf (c .before .s .given .0 .0))
+  sound : Between 1 currencies ((c .before .fields .given .0 .0) .currency) × SoundFlows (floatingOf (c .before .fields .given .0 .0))
   unfolding Sound
   sound = known-of (placed-known 0 (floating-sound (λ _. false) _)) _ read
 
@@ -36,8 +36,8 @@ decode-floating-requires c κs = search needs
 enum-known-cause : tie.Need-enum-known-cause
 enum-known-cause c = search needs
 
-enum-known-s : tie.Need-enum-known-s
-enum-known-s c = search needs
+enum-known-fields : tie.Need-enum-known-fields
+enum-known-fields c = search needs
 
 part-of-requires : tie.Need-part-of-requires
 part-of-requires c κs = sound c .0 .from
@@ -115,7 +115,7 @@ take-floating-spec =
     (tie.spec
     decode-floating-requires
     enum-known-cause
-    enum-known-s
+    enum-known-fields
     part-of-requires
     mul-cell
     add-cells

@@ -20,13 +20,13 @@ use Rattle.book.proofs.positions.take_option.Tie as tie
 -- what is known once the body has been read
 module _ (c : tie.After-known-told2) where
   read : placed 0 (decodeOption (c .before .before .before .before .before .before .args .body .now))
-      ≡ accepted (option ((c .before .s .given .0 .0) .currency) ((c .before .s .given .0 .0) .side) (valuesOf (c .before .s .given .0 .0)))
+      ≡ accepted (option ((c .before .fields .given .0 .0) .currency) ((c .before .fields .given .0 .0) .side) (valuesOf (c .before .fields .given .0 .0)))
   unfolding optionRead
   read =
       let d = c .before .before .before in
-      sym (d .decode-option .ensures) ∙ ap optionRead (c .before .s .given .1)
+      sym (d .decode-option .ensures) ∙ ap optionRead (c .before .fields .given .1)
 
-  sound : Between 1 currencies ((c .before .s .given .0 .0) .currency) × Between 1 2 ((c .before .s .given .0 .0) .side) × Listed Small 6 (valuesOf (c .before .s .given .0 .0))
+  sound : Between 1 currencies ((c .before .fields .given .0 .0) .currency) × Between 1 2 ((c .before .fields .given .0 .0) .side) × Listed Small 6 (valuesOf (c .before .fields .given .0 .0))
   unfolding Sound
   sound = known-of (placed-known 0 (option-sound (λ _. false) _)) _ read
 
@@ -36,8 +36,8 @@ decode-option-requires c κs = search needs
 enum-known-cause : tie.Need-enum-known-cause
 enum-known-cause c = search needs
 
-enum-known-s : tie.Need-enum-known-s
-enum-known-s c = search needs
+enum-known-fields : tie.Need-enum-known-fields
+enum-known-fields c = search needs
 
 part-of-requires : tie.Need-part-of-requires
 part-of-requires c κs = sound c .0 .from
@@ -109,7 +109,7 @@ take-option-spec =
     (tie.spec
     decode-option-requires
     enum-known-cause
-    enum-known-s
+    enum-known-fields
     part-of-requires
     mul-value
     add-values

@@ -20,13 +20,13 @@ use Rattle.book.proofs.positions.take_single.Tie as tie
 -- what is known once the body has been read
 module _ (c : tie.After-known-told2) where
   read : placed 0 (decodeSingle (c .before .before .before .before .before .before .args .body .now))
-      ≡ accepted (flows (c .before .s .given .0 .0 .currency) (singleOf (c .before .s .given .0 .0)))
+      ≡ accepted (flows (c .before .fields .given .0 .0 .currency) (singleOf (c .before .fields .given .0 .0)))
   unfolding singleRead
   read =
       let d = c .before .before .before in
-      sym (d .decode-single .ensures) ∙ ap singleRead (c .before .s .given .1)
+      sym (d .decode-single .ensures) ∙ ap singleRead (c .before .fields .given .1)
 
-  sound : Between 1 currencies (c .before .s .given .0 .0 .currency) × SoundFlows (singleOf (c .before .s .given .0 .0))
+  sound : Between 1 currencies (c .before .fields .given .0 .0 .currency) × SoundFlows (singleOf (c .before .fields .given .0 .0))
   unfolding Sound
   sound = known-of (placed-known 0 (single-sound (λ _. false) _)) _ read
 
@@ -36,8 +36,8 @@ decode-single-requires c κs = search needs
 enum-known-cause : tie.Need-enum-known-cause
 enum-known-cause c = search needs
 
-enum-known-s : tie.Need-enum-known-s
-enum-known-s c = search needs
+enum-known-fields : tie.Need-enum-known-fields
+enum-known-fields c = search needs
 
 part-of-requires : tie.Need-part-of-requires
 part-of-requires c κs = sound c .0 .from
@@ -115,7 +115,7 @@ take-single-spec =
     (tie.spec
     decode-single-requires
     enum-known-cause
-    enum-known-s
+    enum-known-fields
     part-of-requires
     mul-cell
     add-cells

@@ -20,13 +20,13 @@ use Rattle.book.proofs.positions.take_term_deposit.Tie as tie
 -- what is known once the body has been read
 module _ (c : tie.After-known-told2) where
   read : placed 0 (decodeTermDeposit (c .before .before .before .before .before .before .args .body .now))
-      ≡ accepted (flows ((c .before .s .given .0 .0) .currency) (termDepositOf (c .before .s .given .0 .0) (c .before .before .before .before .before .before .args .body .now)))
+      ≡ accepted (flows ((c .before .fields .given .0 .0) .currency) (termDepositOf (c .before .fields .given .0 .0) (c .before .before .before .before .before .before .args .body .now)))
   unfolding termDepositRead
   read =
       let d = c .before .before .before in
-      sym (d .decode-term-deposit .ensures) ∙ ap (termDepositRead _) (c .before .s .given .1)
+      sym (d .decode-term-deposit .ensures) ∙ ap (termDepositRead _) (c .before .fields .given .1)
 
-  sound : Between 1 currencies ((c .before .s .given .0 .0) .currency) × SoundFlows (termDepositOf (c .before .s .given .0 .0) (c .before .before .before .before .before .before .args .body .now))
+  sound : Between 1 currencies ((c .before .fields .given .0 .0) .currency) × SoundFlows (termDepositOf (c .before .fields .given .0 .0) (c .before .before .before .before .before .before .args .body .now))
   unfolding Sound
   sound = known-of (placed-known 0 (term-deposit-sound (λ _. false) _)) _ read
 
@@ -36,8 +36,8 @@ decode-term-deposit-requires c κs = search needs
 enum-known-cause : tie.Need-enum-known-cause
 enum-known-cause c = search needs
 
-enum-known-s : tie.Need-enum-known-s
-enum-known-s c = search needs
+enum-known-fields : tie.Need-enum-known-fields
+enum-known-fields c = search needs
 
 part-of-requires : tie.Need-part-of-requires
 part-of-requires c κs = sound c .0 .from
@@ -115,7 +115,7 @@ take-term-deposit-spec =
     (tie.spec
     decode-term-deposit-requires
     enum-known-cause
-    enum-known-s
+    enum-known-fields
     part-of-requires
     mul-cell
     add-cells

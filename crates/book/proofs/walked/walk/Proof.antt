@@ -51,7 +51,7 @@ same-length-5 c = search needs
 returns : tie.Need-returns Inv-loop μ-loop
 returns c =
     let at = c .before .before .before .before .before .before .before .before .before .before .before .before .before .before .before .loop in
-    walks-ended _ _ (at .at) (at .m) (at .inv .5) _ _ (c .before .before .before .before .before .before .before .before .before .step .ensures) (c .enum-told .given .1)
+    walks-ended _ _ (at .at) (at .masks) (at .inv .5) _ _ (c .before .before .before .before .before .before .before .before .before .step .ensures) (c .enum-told .given .1)
 
 enum-known-cause : tie.Need-enum-known-cause Inv-loop μ-loop
 enum-known-cause c = search needs
@@ -74,7 +74,7 @@ same-length-10 c = search needs
 returns-2 : tie.Need-returns-2 Inv-loop μ-loop
 returns-2 c =
     let at = c .before .before .before .before .before .before .before .before .before .before .before .before .before .before .before .before .loop in
-    walks-stopped _ _ (at .at) (at .m) (at .inv .5) _ _ (c .before .before .before .before .before .before .before .before .before .before .step .ensures) _ (c .before .cause .given .1)
+    walks-stopped _ _ (at .at) (at .masks) (at .inv .5) _ _ (c .before .before .before .before .before .before .before .before .before .before .step .ensures) _ (c .before .cause .given .1)
 
 enum-known-next : tie.Need-enum-known-next Inv-loop μ-loop
 enum-known-next c = search needs
@@ -82,13 +82,13 @@ enum-known-next c = search needs
 loop-less : tie.Need-loop-less Inv-loop μ-loop
 loop-less c =
     let at = c .before .before .before .before .before .before .before .before .before .before .before .before .before .before .before .before .loop in
-    let on = forward _ _ (at .at) (at .m) (at .inv .5) _ _ (c .before .before .before .before .before .before .before .before .before .before .step .ensures) _ _ (c .before .next .given .1) in
+    let on = forward _ _ (at .at) (at .masks) (at .inv .5) _ _ (c .before .before .before .before .before .before .before .before .before .before .step .ensures) _ _ (c .before .next .given .1) in
     omega (arith, on .0, on .1)
 
 loop-again : tie.Need-loop-again Inv-loop μ-loop
 loop-again c =
     let at = c .before .before .before .before .before .before .before .before .before .before .before .before .before .before .before .before .loop in
-    (omega arith, omega arith, omega arith, omega arith, omega arith, walks-on _ _ (at .at) (at .m) (at .inv .5) _ _ (c .before .before .before .before .before .before .before .before .before .before .step .ensures) _ _ (c .before .next .given .1))
+    (omega arith, omega arith, omega arith, omega arith, omega arith, walks-on _ _ (at .at) (at .masks) (at .inv .5) _ _ (c .before .before .before .before .before .before .before .before .before .before .step .ensures) _ _ (c .before .next .given .1))
 
 pub walk-spec : {M : Type 1} → statement M
 walk-spec =

@@ -11,8 +11,8 @@ use Rattle.slotting.proofs.Schedule.{scheduled, scheduled-small, schedu
 use Rattle.slotting.proofs.coupons.slot_coupons.Statement.{statement}
 use Rattle.slotting.proofs.coupons.slot_coupons.Tie as tie
 
-small : (c : tie.Start) → c .args .s .count * c .args .s .coupon + c .args .s .principal ≤ trillion
-small c = size-small _ (c .args .s .period) _ _ _ (c .pre .0)
+small : (c : tie.Start) → c .args .fields .count * c .args .fields .coupon + c .args .fields .principal ≤ trillion
+small c = size-small _ (c .args .fields .period) _ _ _ (c .pre .0)
 
 cast-size : tie.Need-cast-size
 cast-size c = search needs
@@ -43,7 +43,7 @@ slice-aggregate-enter-row c = search needs
 
 enter-row-requires : tie.Need-enter-row-requires
 enter-row-requires c κs =
-    let s = c .before .before .before .before .before .before .before .before .before .before .args .s in
+    let s = c .before .before .before .before .before .before .before .before .before .before .args .fields in
     let filled = c .before .before .before .before .coupon-row .ensures in
     let whole = small (c .before .before .before .before .before .before .before .before .before .before) in (
       (
@@ -63,7 +63,7 @@ same-length-2 c = search needs
 
 returns : tie.Need-returns
 returns c =
-    let s = c .before .before .before .before .before .before .before .before .before .before .before .before .before .before .args .s in
+    let s = c .before .before .before .before .before .before .before .before .before .before .before .before .before .before .args .fields in
     row-slotted _ (s .side) (c .before .before .before .before .before .before .before .before .before .before .before .before .before .before .pre .1) (scheduled (s .period) (s .count) (s .coupon) (s .principal)) _ (c .before .before .before .before .before .before .before .before .coupon-row .ensures)
     (scheduled-flow (s .period) (s .count) (s .coupon) (s .currency) (s .side) (s .principal))
     (λ i. size-coupons (s .currency) i (s .side) (s .period) (s .count) (s .coupon) (s .principal)) (c .before .before .before .enter-row .ensures)

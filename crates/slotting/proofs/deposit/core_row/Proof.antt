@@ -5,7 +5,7 @@ use native.Mathlib.Omega.{arith}
 use lib.ListN.{length, getD, length-set}
 use borrow.Author.Needs.{needs}
 use Rattle.record.specs.Told.{amountsFrom}
-use Rattle.posting.proofs.Loops.{Filled, filled-none, filled-next}
+use Rattle.laws.proofs.Filled.{Filled, filled-none, filled-next}
 use Rattle.slotting.proofs.Deposited.{core-row}
 use Rattle.slotting.proofs.deposit.core_row.Statement.{statement}
 use Rattle.slotting.proofs.deposit.core_row.Tie as tie

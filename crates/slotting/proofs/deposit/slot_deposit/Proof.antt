@@ -32,7 +32,7 @@ enter-row-requires : tie.Need-enter-row-requires
 unfolding SoundFlows
 enter-row-requires c κs =
     let s = c .before .before .before .before .before .before .before .before .before in
-    let whole = s .args .d .total in
+    let whole = s .args .fields .total in
     let core = amountsFrom (s .args .body .now) 6 in
     let filled = c .before .before .before .before .core-row .ensures in
     let few = amounts-few (s .args .body .now) 6 in (
@@ -54,7 +54,7 @@ returns : tie.Need-returns
 unfolding SoundFlows
 returns c =
     let s = c .before .before .before .before .before .before .before .before .before .before .before .before .before in
-    let d = s .args .d in
+    let d = s .args .fields in
     let core = amountsFrom (s .args .body .now) 6 in
     row-slotted _ 2 (s .pre .1) (depositFlow (d .total) core) (d .total) (c .before .before .before .before .before .before .before .before .core-row .ensures) (core-flow (d .currency) (d .category) (d .total) core)
     (λ i. size-deposit (d .currency) i (d .category) (d .total) core (amounts-few (s .args .body .now) 6) (s .pre .0 .1 .3)) (c .before .before .before .enter-row .ensures)

@@ -11,7 +11,7 @@ use Rattle.laws.proofs.Sums.{sum-more}
 use Rattle.paper.specs.Ladder.{buckets}
 use Rattle.paper.specs.Behaviour.{outstandingAt, scheduledAt, loanFlow}
 use Rattle.record.specs.Told.{amountsFrom}
-use Rattle.posting.proofs.Loops.{Filled, filled-none, filled-next}
+use Rattle.laws.proofs.Filled.{Filled, filled-none, filled-next}
 use Rattle.slotting.proofs.Entered.{amounts-few}
 use Rattle.slotting.proofs.Prepayment.{Before, flow-is, left-is, rest-is, balance-within, none-alone-here, loan-sum}
 use Rattle.slotting.proofs.loan.loan_row.Statement.{statement}

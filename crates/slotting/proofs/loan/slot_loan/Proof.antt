@@ -26,7 +26,7 @@ loan-flows-requires : tie.Need-loan-flows-requires
 unfolding SoundFlows
 loan-flows-requires c κs =
     let s = c .before .before .before .before in
-    ((s .pre .0 .0, s .pre .0 .1 .0 .to, refl, refl), schedule-of (s .args .l .share) _ _ (s .pre .0 .1))
+    ((s .pre .0 .0, s .pre .0 .1 .0 .to, refl, refl), schedule-of (s .args .fields .share) _ _ (s .pre .0 .1))
 
 slice-aggregate-enter : tie.Need-slice-aggregate-enter
 slice-aggregate-enter c = search needs
@@ -37,7 +37,7 @@ slice-aggregate-enter-2 c = search needs
 enter-requires : tie.Need-enter-requires
 enter-requires c κs =
     let s = c .before .before .before .before .before .before .before .before .before .before .before in
-    let share = s .args .l .share in
+    let share = s .args .fields .share in
     let body = s .args .body .now in
     let row : ℕ → ℕ → ℕ = λ i. loanFlow (prepaymentRate share i) (amountsFrom body 3) (amountsFrom body 79) in
     let filled = c .before .before .before .before .before .before .loan-flows .ensures in
@@ -61,7 +61,7 @@ same-length-2 c = search needs
 returns : tie.Need-returns
 returns c =
     let s = c .before .before .before .before .before .before .before .before .before .before .before .before .before .before .before in
-    let l = s .args .l in
+    let l = s .args .fields in
     let body = s .args .body .now in
     let row : ℕ → ℕ → ℕ = λ i. loanFlow (prepaymentRate (l .share) i) (amountsFrom body 3) (amountsFrom body 79) in
     let filled = c .before .before .before .before .before .before .before .before .before .before .loan-flows .ensures in

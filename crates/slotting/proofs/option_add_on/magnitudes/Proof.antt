@@ -8,7 +8,7 @@ use mir.Syntax.{w64}
 use borrow.Author.Needs.{needs}
 use Rattle.laws.proofs.Fits.{back}
 use Rattle.laws.proofs.Lists.{tabulate-is}
-use Rattle.posting.proofs.Loops.{Filled, filled-none, filled-next}
+use Rattle.laws.proofs.Filled.{Filled, filled-none, filled-next}
 use Rattle.slotting.proofs.option_add_on.magnitudes.Statement.{statement}
 use Rattle.slotting.proofs.option_add_on.magnitudes.Tie as tie
 

@@ -27,8 +27,8 @@ slice-aggregate-magnitudes-2 c = search needs
 magnitudes-requires : tie.Need-magnitudes-requires
 magnitudes-requires c κs =
     let s = c .before .before .before .before in
-    let small = values-small (valuesOf (s .args .o)) (s .pre .0) in
-    (refl, subst (AtMostℤ billion) (sym (values-back (valuesOf (s .args .o)) small)) small)
+    let small = values-small (valuesOf (s .args .fields)) (s .pre .0) in
+    (refl, subst (AtMostℤ billion) (sym (values-back (valuesOf (s .args .fields)) small)) small)
 
 slice-aggregate-admits : tie.Need-slice-aggregate-admits
 slice-aggregate-admits c = search needs
@@ -36,7 +36,7 @@ slice-aggregate-admits c = search needs
 admits-requires : tie.Need-admits-requires
 admits-requires c κs =
     let s = c .before .before .before .before .before .before .before .before in
-    let values = valuesOf (s .args .o) in
+    let values = valuesOf (s .args .fields) in
     let small = values-small values (s .pre .0) in
     let filled = magnitudes-back values _ small (c .before .before .before .magnitudes .ensures) in (
       ap length filled ∙ tabulate-length _ 6 ∙ sym (s .pre .1 .sizes-long),
@@ -49,8 +49,8 @@ slice-aggregate-add-values c = search needs
 add-values-requires : tie.Need-add-values-requires
 add-values-requires c κs =
     let s = c .before .before .before .before .before .before .before .before .before .before .before .before .before .before in
-    let small = values-small (valuesOf (s .args .o)) (s .pre .0) in
-    (sym (s .pre .1 .add-ons-long), (s .pre .1 .add-ons-small, subst (AtMostℤ billion) (sym (values-back (valuesOf (s .args .o)) small)) small))
+    let small = values-small (valuesOf (s .args .fields)) (s .pre .0) in
+    (sym (s .pre .1 .add-ons-long), (s .pre .1 .add-ons-small, subst (AtMostℤ billion) (sym (values-back (valuesOf (s .args .fields)) small)) small))
 
 same-length : tie.Need-same-length
 same-length c = search needs
@@ -61,7 +61,7 @@ same-length-2 c = search needs
 returns : tie.Need-returns
 returns c =
     let s = c .before .before .before .before .before .before .before .before .before .before .before .before .before .before .before .before in
-    let o = s .args .o in
+    let o = s .args .fields in
     let small = values-small (valuesOf o) (s .pre .0) in
     let filled = magnitudes-back (valuesOf o) _ small (c .before .before .before .before .before .before .before .before .before .before .before .magnitudes .ensures) in
     option-slotted _ true (s .pre .1 .sizes-long) (option-sized (o .currency) (o .side) (valuesOf o) _ filled) (c .before .before .before .before .before .before .before .admits .ensures) (c .before .before .before .before .if1 .taken)
@@ -75,7 +75,7 @@ same-length-3 c = search needs
 returns-2 : tie.Need-returns-2
 returns-2 c =
     let s = c .before .before .before .before .before .before .before .before .before .before .before .before in
-    let o = s .args .o in
+    let o = s .args .fields in
     let filled = magnitudes-back (valuesOf o) _ (values-small (valuesOf o) (s .pre .0)) (c .before .before .before .before .before .before .before .magnitudes .ensures) in
     option-slotted _ false (s .pre .1 .sizes-long) (option-sized (o .currency) (o .side) (valuesOf o) _ filled) (c .before .before .before .admits .ensures) (c .if1 .left) refl
 

@@ -24,7 +24,7 @@ same-length-2 c = search needs
 
 returns : tie.Need-returns
 returns c =
-    let f = c .before .before .before .before .before .before .before .before .args .f in
+    let f = c .before .before .before .before .before .before .before .before .args .fields in
     floating-slotted (f .currency) (f .side) _ (c .before .before .before .before .before .before .before .before .pre .1) (f .principal) (f .coupon) (c .before .before .before .slot-due .ensures)
 
 pub slot-floating-spec : {M : Type 1} → statement M

@@ -19,7 +19,7 @@ same-length-2 c = search needs
 
 returns : tie.Need-returns
 returns c =
-    single-slotted (c .before .before .before .before .before .before .before .args .s .currency) (c .before .before .before .before .before .before .before .args .s .side) _ (c .before .before .before .before .before .before .before .pre .1) (c .before .before .before .before .before .before .before .args .s .amount) (c .before .before .before .slot-due .ensures)
+    single-slotted (c .before .before .before .before .before .before .before .args .fields .currency) (c .before .before .before .before .before .before .before .args .fields .side) _ (c .before .before .before .before .before .before .before .pre .1) (c .before .before .before .before .before .before .before .args .fields .amount) (c .before .before .before .slot-due .ensures)
 
 pub slot-single-spec : {M : Type 1} → statement M
 slot-single-spec = tie.close (tie.spec slot-due-requires same-length same-length-2 returns)

@@ -39,7 +39,7 @@ slice-aggregate-enter-2 c = search needs
 enter-requires : tie.Need-enter-requires
 enter-requires c κs =
     let s = c .before .before .before .before .before .before .before .before .before .before in
-    let share = s .args .d .share in
+    let share = s .args .fields .share in
     let amounts = amountsFrom (s .args .body .now) 3 in
     let filled = c .before .before .before .before .before .withdrawn-flows .ensures in
     let size = c .before .before .before .before .before .before .before .sum-from .ensures in
@@ -65,7 +65,7 @@ same-length-2 c = search needs
 returns : tie.Need-returns
 returns c =
     let s = c .before .before .before .before .before .before .before .before .before .before .before .before .before .before in
-    let d = s .args .d in
+    let d = s .args .fields in
     let amounts = amountsFrom (s .args .body .now) 3 in
     let few = amounts-few (s .args .body .now) 3 in
     let sum = c .before .before .before .before .before .before .before .before .before .before .before .sum-from in

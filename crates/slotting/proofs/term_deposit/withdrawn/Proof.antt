@@ -10,7 +10,7 @@ use Rattle.laws.proofs.Lists.{tabulate-length}
 use Rattle.laws.proofs.Sums.{sum-more}
 use Rattle.paper.specs.Behaviour.{moved}
 use Rattle.record.specs.Told.{amountsFrom}
-use Rattle.posting.proofs.Loops.{Filled, filled-none, filled-next}
+use Rattle.laws.proofs.Filled.{Filled, filled-none, filled-next}
 use Rattle.slotting.proofs.Deposited.{withdrawn-row}
 use Rattle.slotting.proofs.term_deposit.withdrawn.Statement.{statement}
 use Rattle.slotting.proofs.term_deposit.withdrawn.Tie as tie
