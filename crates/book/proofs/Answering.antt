@@ -13,13 +13,13 @@ use Rattle.paper.specs.declared.Refusal.{Refusal}
 use Rattle.paper.specs.declared.Refusal.the-variants.{NoCurve, BadCapital, BookTooLong, RoomTooSmall}
 use Rattle.paper.specs.Refusals.{numberOf, Checked, accepted, refused, _>>=_, _>>_, unless, refuseIf}
 use Rattle.paper.specs.Records.{Record, currencies}
-use Rattle.paper.specs.Ledger.{totals, cells, figures, ledgerOf}
+use Rattle.paper.specs.Ledger.{totals, curved, cells, figures, ledgerOf}
 use Rattle.paper.specs.TurnedDown.{lacksCurve, badCapital, bookTooLong, roomTooSmall}
 use Rattle.paper.specs.Verdict.{reportOf}
 use Rattle.paper.specs.Book.{walk, covered, outcome, touchesNothing, reportAfter, ledgerAfter}
 use Rattle.paper.proofs.Known.{known-of}
 use Rattle.paper.proofs.Walked.{Good, good-none, walk-good}
-use Rattle.arrays.specs.Kept.{Arrays, arraysOf}
+use Rattle.arrays.specs.Kept.{Arrays, arraysOf, MaskOf}
 use Rattle.arrays.specs.Rooms.{curvedBy, totalsBy}
 use Rattle.arrays.proofs.More.{nothing-kept}
 use Rattle.valuation.specs.Bounds.{Bounds}
@@ -37,11 +37,15 @@ use Rattle.book.proofs.Causes.{walk-clears}
 
 -- ---- by the outcome
 
+-- a refusal tells of no curve
+no-curves : {o : Checked (List Record)} (q : Refusal) (place curves : ℕ) (kept : List Record) → assessed.Refused q place ≡ assessed.Reported curves → o ≡ accepted kept → MaskOf curves (curved kept)
+no-curves q place curves kept e is = let z : _≡_ {A = ℕ} 0 1 = cc in absurd (omega arith)
+
 -- a refusal that touches nothing
 untouched : {o : Checked (List Record)} {T : ℕ} {report ledger : List ℤ} (q : Refusal) (place : ℕ)
     → o ≡ refused q place → touchesNothing q ≡ true → Answers o T report ledger (assessed.Refused q place) report ledger
 unfolding told answerOf reportAfter ledgerAfter
-untouched q place e t = record { says = rw e; report-is = rw e; ledger-is = rw (e, t) }
+untouched q place e t = record { says = rw e; curves-are = no-curves q place; report-is = rw e; ledger-is = rw (e, t) }
 
 -- a refusal that clears a ledger of just the room
 cleared : {o : Checked (List Record)} {T : ℕ} {report ledger : List ℤ} (full ledger' : List ℤ) (q : Refusal) (place : ℕ)
@@ -50,9 +54,17 @@ cleared : {o : Checked (List Record)} {T : ℕ} {report ledger : List ℤ} (full
 unfolding told answerOf reportAfter ledgerAfter
 cleared {ledger = ledger} full ledger' q place e t long same is = record {
   says = rw e;
+  curves-are = no-curves q place;
   report-is = rw e;
   ledger-is = is ∙ rw (e, t, same, drop-of-length-le ledger {i = cells} (omega arith), append-nil (replicate cells (pos 0)));
 }
+
+one-mask : (curves curves' : ℕ) (kept kept' : List Record) → assessed.Reported curves ≡ assessed.Reported curves' → _≡_ {A = Checked (List Record)} (accepted kept) (accepted kept')
+    → MaskOf curves (curved kept) → MaskOf curves' (curved kept')
+one-mask curves curves' kept kept' e f p =
+    let mask : curves ≡ curves' = cc in
+    let same : kept ≡ kept' = cc in
+    rw (sym mask, sym same) p
 
 -- the arrays before the first record
 pub nothing-yet : (ledger before : List ℤ) → length before ≡ cells → ledger ≡ replicate (length before) (pos 0)
@@ -97,12 +109,13 @@ module _ (book : List ℕ) (T : ℕ) (report ledger : List ℤ) (ledger-long : l
     bounds-hold missing e h = rw (all .arrays) (kept-bounds (all .kept) good (m .curved) (all .curved-is) (none-missing missing e h))
 
     pub answers-reported : (missing : ℕ) → missing ≡ lowestMissing m → currencies < missing → length report ≡ figures
-        → Answers (ofRecords book) T report ledger assessed.Reported (reportOf (totalsBy (a .ledger) (a .addOns) (a .rates)) T) (a .ledger)
+        → Answers (ofRecords book) T report ledger (assessed.Reported (m .curved)) (reportOf (totalsBy (a .ledger) (a .addOns) (a .rates)) T) (a .ledger)
     unfolding covered unless told answerOf reportAfter ledgerAfter arraysOf
     answers-reported missing e h report-long =
         let is : ofRecords book ≡ accepted (all .kept) = after-walk ∙ rw (none-missing missing e h) in
         record {
           says = rw is;
+          curves-are = λ curves kept same also. one-mask (m .curved) curves (all .kept) kept same (sym is ∙ also) (all .curved-is);
           report-is = rw (is, all .arrays, kept-report (all .kept) T, drop-of-length-le report {i = figures} (omega arith), append-nil (reportOf (totals (all .kept)) T));
           ledger-is = rw (is, all .arrays, drop-of-length-le ledger {i = cells} (omega arith), append-nil (ledgerOf (totals (all .kept) .cell)));
         }
@@ -176,11 +189,13 @@ module _ (book : List ℕ) (T : ℕ) (report ledger : List ℤ) where
       unfolding reportAfter ledgerAfter
       wider (accepted kept) a report' ledger' s = record {
         says = s .says;
+        curves-are = s .curves-are;
         report-is = rw (s .report-is, none-left figures report (room-enough _ _ r .0), append-nil (reportOf (totals kept) T));
         ledger-is = rw (s .ledger-is, none-left cells ledger (room-enough _ _ r .1), append-nil (ledgerOf (totals kept .cell)));
       }
       wider (refused q place) a report' ledger' s = record {
         says = s .says;
+        curves-are = s .curves-are;
         report-is = rw (s .report-is) (take-append-drop figures report);
         ledger-is = rw (s .ledger-is) (kept-or-cleared (touchesNothing q));
       }

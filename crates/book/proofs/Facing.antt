@@ -27,9 +27,9 @@ module _ {o : Checked (List Record)} {T : ℕ} {report ledger report' ledger' : 
     ledger-is = p .ledger-is;
   }
 
-  pub faced-reported : (a : Assessed) → a ≡ Reported → Answers o T report ledger a report' ledger' → place' ≡ withPlace 0 place → Faced o T report ledger place 0 report' ledger' place'
+  pub faced-reported : (a : Assessed) (curves : ℕ) → a ≡ Reported curves → Answers o T report ledger a report' ledger' → place' ≡ withPlace 0 place → Faced o T report ledger place 0 report' ledger' place'
   unfolding told numberIn placeIn
-  faced-reported a is p e = faced a 0 0 p (rw is) (rw is) e
+  faced-reported a curves is p e = faced a 0 0 p (rw is) (rw is) e
 
   pub faced-refused : (a : Assessed) (q : Refusal) (at number : ℕ) → a ≡ Refused q at → Answers o T report ledger a report' ledger' → place' ≡ withPlace at place → number ≡ numberOf q
       → Faced o T report ledger place number report' ledger' place'

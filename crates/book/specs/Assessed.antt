@@ -6,9 +6,10 @@ use lib.IntN.{ℤ}
 use lib.ListN.{length}
 use Rattle.paper.specs.Refusals.{numberOf, Checked, accepted, refused, _>>=_}
 use Rattle.paper.specs.Records.{Record}
-use Rattle.paper.specs.Ledger.{totals}
+use Rattle.paper.specs.Ledger.{totals, curved}
 use Rattle.paper.specs.Book.{walk, covered, outcome, reportAfter, ledgerAfter}
 use Rattle.paper.specs.Demand3.{Demand3}
+use Rattle.arrays.specs.Kept.{MaskOf}
 use Rattle.book.specs.declared.assess.Assessed.{Assessed}
 use Rattle.book.specs.declared.assess.Assessed.the-variants.{Reported, Refused}
 
@@ -18,7 +19,7 @@ pub data Answer : Type 0 where
   turnedDown : (number place : ℕ) → Answer
 
 unfoldable pub told : Assessed → Answer
-told Reported = reported
+told (Reported curves) = reported
 told (Refused r place) = turnedDown (numberOf r) place
 
 unfoldable pub answerOf : Checked (List Record) → Answer
@@ -28,6 +29,7 @@ answerOf (refused r place) = turnedDown (numberOf r) place
 -- the answer to what a book comes to, and what it leaves in the rooms
 pub record Answers (o : Checked (List Record)) (T : ℕ) (report ledger : List ℤ) (answer : Assessed) (report' ledger' : List ℤ) : Type 0 where
   pub says : told answer ≡ answerOf o
+  pub curves-are : (curves : ℕ) (kept : List Record) → answer ≡ Reported curves → o ≡ accepted kept → MaskOf curves (curved kept)
   pub report-is : report' ≡ reportAfter o T report
   pub ledger-is : ledger' ≡ ledgerAfter o ledger
 

@@ -13,9 +13,9 @@ use factor::table;
 use paper::Refusal;
 use valuation::fill_report;
 
-// The report was written; or the book was turned down, with the cause and its place.
+// The report was written, and these currencies have a curve, as a mask; or the book was turned down, with the cause and its place.
 pub enum Assessed {
-    Reported,
+    Reported(u32),
     Refused(Refusal, usize),
 }
 
@@ -50,7 +50,7 @@ pub fn assess_records(book: &[u8], tier1: u64, report: &mut [i64], ledger: &mut 
             }
             let factors = table();
             fill_report(ledger, &rates, &addons, m.curved, tier1, &factors, report);
-            Assessed::Reported
+            Assessed::Reported(m.curved)
         }
     }
 }

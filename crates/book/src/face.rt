@@ -54,7 +54,7 @@ pub extern "C" fn vorlegan_assess(
     ensures { λ r. ⌜ Faced (outcome (now (book .entry)) tier1 (length (now (report .entry))) (length (now (ledger .entry)))) tier1 (now (report .entry)) (now (ledger .entry)) (now (place .entry)) r (now (report .exit)) (now (ledger .exit)) (now (place .exit)) ⌝ }
 {
     match assess(book, tier1, report, ledger) {
-        Assessed::Reported => {
+        Assessed::Reported(_) => {
             put_place(place, 0);
             0
         }

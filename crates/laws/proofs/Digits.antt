@@ -152,3 +152,16 @@ no-digit (suc k) x h l = by (x % 2) refl (no-digit k (x / 2) (omega (arith, pow-
         let z : x / 2 ≡ 0 = r (omega arith) in
         omega arith
     by (suc d) e r m = absurd (omega arith)
+
+-- ---- a set has one mask
+
+same-bits : (k a b : ℕ) → a < 2 ^ k → b < 2 ^ k → ((i : ℕ) → i < k → bit a i ≡ bit b i) → a ≡ b
+unfolding bit
+same-bits zero a b h l e = omega arith
+same-bits (suc k) a b h l e =
+    let halves : a / 2 ≡ b / 2 = same-bits k (a / 2) (b / 2) (omega (arith, pow-suc 2 k)) (omega (arith, pow-suc 2 k)) (λ i m. e (suc i) (omega arith)) in
+    let last : a % 2 ≡ b % 2 = e 0 (omega arith) in
+    omega arith
+
+pub same-members : (k a b : ℕ) → a < 2 ^ k → b < 2 ^ k → ((i : ℕ) → i < k → has a i ≡ has b i) → a ≡ b
+same-members k a b h l e = same-bits k a b h l (λ i m. bit-is a i ∙ ap (λ (d : Bool). if d then 1 else 0) (e i m) ∙ sym (bit-is b i))

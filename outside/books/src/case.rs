@@ -3,6 +3,7 @@
 use crate::aimed;
 use crate::damage::damaged;
 use crate::draw::Draw;
+use crate::halves;
 use crate::valid;
 use reference::{Record, Request, GREATEST_CAPITAL, LEDGER_CELLS, LONGEST_BOOK, REPORT_CELLS};
 
@@ -46,7 +47,7 @@ impl Case {
     }
 }
 
-/// The case of a seed: good books, books aimed at a refusal number, and damaged ones.
+/// The case of a seed: good books, books aimed at a refusal number or at a rounding's half, and damaged ones.
 pub fn case(seed: u64) -> Case {
     let mut draw = Draw::seeded(seed);
     match draw.between(1, 100) {
@@ -55,6 +56,7 @@ pub fn case(seed: u64) -> Case {
             let (number, out) = (draw.between(1, 18) as u8, draw.coin());
             aimed::case(&mut draw, number, out)
         }
+        71 | 72 => halves::case(&mut draw),
         _ => {
             let length = draw.pick(&[200, 400, 1_000, 4_000]);
             let book = some_book(&mut draw, length);

@@ -52,3 +52,23 @@ impl Curve {
         Ok(Curve { rates })
     }
 }
+
+#[cfg(test)]
+mod tests {
+    use crate::series::tables;
+
+    /// So "halves away from zero" decides nothing here, and no book can be aimed at it.
+    #[test]
+    fn no_shocks_in_range_bring_a_rate_change_to_a_half() {
+        const BILLION: i64 = 1_000_000_000;
+        let is_half = |change: i64| change.rem_euclid(BILLION) == BILLION / 2;
+        let shocks = || (0..=1_000).flat_map(|short| (0..=1_000).map(move |long| (short, long)));
+        for weight in tables().short_weights {
+            let meets = |(short, long): (i64, i64)| {
+                let (near, far) = (short * weight, long * (BILLION - weight));
+                is_half(-65 * near + 90 * far) || is_half(80 * near - 60 * far) || is_half(100 * near)
+            };
+            assert!(!shocks().any(meets), "{weight}");
+        }
+    }
+}

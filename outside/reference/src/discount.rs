@@ -14,15 +14,27 @@ pub fn exponent(rate: i64, bucket_index: usize) -> i64 {
 
 /// The computed factor in billionths, digit by digit.
 pub fn computed_factor(exponent: i64) -> i64 {
+    digit_by_digit(exponent).0
+}
+
+/// Whether a product on the way to the factor lies halfway between two whole numbers: "halves up" decides there.
+pub fn meets_a_half(exponent: i64) -> bool {
+    digit_by_digit(exponent).1
+}
+
+fn digit_by_digit(exponent: i64) -> (i64, bool) {
     let (mut factor, digits) = match exponent {
         0.. => (BILLION, exponent),
         _ => (tables().negative_start, 12_500_000_000 + exponent),
     };
+    let mut half = false;
     for (row, entries) in tables().digit_factors.iter().enumerate() {
         let digit = digits / 10i64.pow(10 - row as u32) % 10;
-        factor = (factor * entries[digit as usize] + BILLION / 2) / BILLION;
+        let product = factor * entries[digit as usize];
+        half |= product % BILLION == BILLION / 2;
+        factor = (product + BILLION / 2) / BILLION;
     }
-    factor
+    (factor, half)
 }
 
 /// The exact factor as a part of one: 1 / E(x) from x = 0 on, E(-x) below.

@@ -23,7 +23,7 @@ mod walk;
 
 pub use answer::{Answer, Request, GREATEST_CAPITAL, LONGEST_BOOK};
 pub use curve::{rate_changes, Curve};
-pub use discount::{computed_factor, exact_factor, exponent};
+pub use discount::{computed_factor, exact_factor, exponent, meets_a_half};
 pub use exact::Exact;
 pub use fields::{LAST_MONTH, RATES};
 pub use flows::{flows, Flows, CORE_CAPS, GREATEST_GROSS};

@@ -32,7 +32,7 @@ same-length-3 : tie.Need-same-length-3
 same-length-3 c = search needs
 
 returns : tie.Need-returns
-returns c = faced-reported _ _ _ (c .before .before .before .before .enum-told .given .1) (c .before .before .before .before .before .before .before .before .assess .ensures .0 .answers) (c .before .before .put-place .ensures)
+returns c = faced-reported _ _ _ _ (c .before .before .before .before .enum-told .given .1) (c .before .before .before .before .before .before .before .before .assess .ensures .0 .answers) (c .before .before .put-place .ensures)
 
 same-length-4 : tie.Need-same-length-4
 same-length-4 c = search needs

@@ -1,0 +1,55 @@
+// What the report program prints for its input (01, "The report program"): everything of it but the reading and the writing.
+ghost use mathlib.Core.List.{_++_};
+ghost use mathlib.Core.Path.{_≡_};
+ghost use Prim.Native.Nat.{_≤_};
+ghost use lib.ListN.{length, drop};
+ghost use Rattle.paper.specs.Ledger.{cells, figures};
+ghost use Rattle.paper.specs.Book.{outcome};
+ghost use Rattle.paper.specs.Program.{capitalIn, textOf, printed};
+use book::assess::Assessed;
+use book::assess::assess;
+use book::face::refusal_number;
+use record::bytes::four_at;
+use text::refusal::write_refusal;
+use text::report::write_report;
+
+// T in 8 bytes, unsigned, the highest first.
+fn capital_in(input: &[u8]) -> u64
+    requires { ⌜ 8 ≤ length (now input) ⌝ }
+    ensures { λ r. ⌜ r ≡ capitalIn (now (input .entry)) ⌝ }
+{
+    four_at(input, 0) as u64 * 4294967296 + four_at(input, 4) as u64
+}
+
+// The rooms are just as long as a report and a ledger.
+fn print_book(book: &[u8], tier1: u64, out: &mut [u8]) -> usize
+    requires { ⌜ 2048 ≤ length (now out) ⌝ }
+    ensures { λ r. ⌜ (r ≡ length (textOf (outcome (now (book .entry)) tier1 figures cells) tier1)) × (r ≤ 2048) ⌝ }
+    ensures { λ r. ⌜ now (out .exit) ≡ textOf (outcome (now (book .entry)) tier1 figures cells) tier1 ++ drop r (now (out .entry)) ⌝ }
+{
+    let mut report = [0i64; 58];
+    let mut ledger = [0i64; 1064];
+    match assess(book, tier1, &mut report, &mut ledger) {
+        Assessed::Reported(curves) => write_report(&report, curves, out),
+        Assessed::Refused(cause, place) => {
+            let number = refusal_number(cause) as u64;
+            write_refusal(number, place as u64, out)
+        }
+    }
+}
+
+// Answers how many bytes it prints; those after them are left as they are.
+pub fn print_answer(input: &[u8], out: &mut [u8]) -> usize
+    requires { ⌜ 2048 ≤ length (now out) ⌝ }
+    ensures { λ r. ⌜ (r ≡ length (printed (now (input .entry)))) × (r ≤ 2048) ⌝ }
+    ensures { λ r. ⌜ now (out .exit) ≡ printed (now (input .entry)) ++ drop r (now (out .entry)) ⌝ }
+{
+    if input.len() > 65536 {
+        return write_refusal(17, 0, out);
+    }
+    if input.len() < 8 {
+        return write_refusal(16, 0, out);
+    }
+    let tier1 = capital_in(input);
+    print_book(&input[8..], tier1, out)
+}

@@ -1,0 +1,74 @@
+//! Seeded cases through the C face, each held against the reference.
+
+use crate::face::Face;
+use crate::rooms::{Call, Outcome};
+use crate::show;
+use crate::tally::Tally;
+use reference::{Answer, Exact};
+use std::time::Instant;
+
+/// Shrinking takes many calls; the first few differences tell the story. Further ones are counted.
+const SHRUNK: u64 = 3;
+const SHOWN: u64 = 20;
+/// One report in so many is held against exact numbers: a fraction takes longer than everything else together.
+const JUDGED_ONCE_IN: u64 = 100;
+
+/// Compares the cases of the seeds from the first on; with `only_first`, no further than the first difference.
+pub fn compare(face: &mut Face, first_seed: u64, cases: u64, only_first: bool) -> Tally {
+    let mut tally = Tally::default();
+    for index in 0..cases {
+        let seed = first_seed.wrapping_add(index);
+        compare_case(face, seed, &mut tally);
+        if only_first && tally.differences > 0 {
+            break;
+        }
+    }
+    tally
+}
+
+fn compare_case(face: &mut Face, seed: u64, tally: &mut Tally) {
+    let call = Call::of(books::case(seed), seed);
+    let answer = call.request().answer();
+    tally.count(&call.book, &answer);
+    let differs = difference(face, &call, &answer);
+    let found = match &differs {
+        Some(difference) => difference.clone(),
+        None => match unsound(&call, &answer, tally) {
+            Some(complaint) => format!("exact numbers contradict the {complaint}"),
+            None => return,
+        },
+    };
+    tally.differences += 1;
+    if tally.differences <= SHOWN {
+        println!("difference at seed {seed}: {found}");
+    }
+    if tally.differences <= SHRUNK && differs.is_some() {
+        show_smallest(face, &call);
+    }
+}
+
+fn difference(face: &mut Face, call: &Call, answer: &Answer) -> Option<String> {
+    match face.call(call) {
+        Ok(outcome) => outcome.difference(&Outcome::due(call, answer)),
+        Err(died) => Some(died),
+    }
+}
+
+/// Report and reference agree by now, so that what exact numbers say of the one they say of the other.
+fn unsound(call: &Call, answer: &Answer, tally: &mut Tally) -> Option<String> {
+    let result = answer.accepted().filter(|_| tally.reported % JUDGED_ONCE_IN == 0)?;
+    tally.judged += 1;
+    Exact::of(&result.positions).complaint(result, call.capital as i64)
+}
+
+fn show_smallest(face: &mut Face, call: &Call) {
+    let begin = Instant::now();
+    let small = books::shrink(&call.book, |book| {
+        let call = call.with_book(book);
+        begin.elapsed() < show::SHRINKING && difference(face, &call, &call.request().answer()).is_some()
+    });
+    let small = call.with_book(&small);
+    let why = difference(face, &small, &small.request().answer()).unwrap_or_default();
+    let rooms = format!("rooms of {} and {} cells", small.before.report.len(), small.before.ledger.len());
+    println!("  smallest: {why}; {}, {rooms}", show::input(small.capital, &small.book));
+}

@@ -1,0 +1,42 @@
+//! The program itself: status and streams. What it finds is the business of `outside/faults`.
+
+use std::process::{Command, Output};
+
+fn compare(arguments: &[&str]) -> Output {
+    Command::new(env!("CARGO_BIN_EXE_compare")).args(arguments).output().expect("compare runs")
+}
+
+fn assert_one_line(output: &Output, part: &str) {
+    let said = String::from_utf8_lossy(&output.stderr);
+    assert_eq!((output.status.code(), said.lines().count(), output.stdout.len()), (Some(2), 1, 0), "{said}");
+    assert!(said.contains(part), "{part} in {said}");
+}
+
+#[test]
+fn wrong_words_get_one_line() {
+    for words in [&[][..], &["frobnicate"], &["face", "1"], &["inputs", "1", "2"]] {
+        assert_one_line(&compare(words), "wanted");
+    }
+    assert_one_line(&compare(&["face", "1", "2"]), "-- COMMAND is wanted");
+    assert_one_line(&compare(&["face", "one", "2", "--", "cat"]), "\"one\" is no number");
+}
+
+#[test]
+fn a_program_that_is_not_there_gets_one_line() {
+    for words in [&["face", "1", "2"][..], &["long", "1"], &["irreport", "1", "2"], &["streams"]] {
+        assert_one_line(
+            &compare(&[words, &["--", "/no/such/program"]].concat()),
+            "/no/such/program: cannot be started",
+        );
+    }
+}
+
+/// `cat` gives back the case where an answer is due.
+#[test]
+fn a_program_that_answers_wrongly_is_a_difference_with_its_seed() {
+    let output = compare(&["first", "7", "9", "--", "cat"]);
+    let said = String::from_utf8_lossy(&output.stdout);
+    assert_eq!(output.status.code(), Some(1));
+    assert!(said.contains("difference at seed 7: ") && said.contains("  smallest: "), "{said}");
+    assert!(said.lines().last().is_some_and(|line| line.ends_with("1 differences")), "{said}");
+}

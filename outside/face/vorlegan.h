@@ -1,0 +1,11 @@
+/* The C face of `crates/book`: a slice is lent as its first element and its length. */
+#ifndef VORLEGAN_H
+#define VORLEGAN_H
+#include <stddef.h>
+#include <stdint.h>
+
+/* 0: the report was written; else the refusal's number. The first cell of `place`, if lent, gets its place. */
+uint32_t vorlegan_assess(const uint8_t *book, size_t book_bytes, uint64_t tier1, int64_t *report, size_t report_cells,
+                         int64_t *ledger, size_t ledger_cells, uint64_t *place, size_t place_cells);
+
+#endif
