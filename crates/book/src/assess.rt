@@ -19,9 +19,9 @@ pub enum Assessed {
     Refused(Refusal, usize),
 }
 
-// The records in turn, then 15, then the report: the capital, the book's length and the rooms are those that 16 to 18 ask for.
+// The records in turn, then 15, then the report: the capital and the rooms are those that 16 and 18 ask for.
 pub fn assess_records(book: &[u8], tier1: u64, report: &mut [i64], ledger: &mut [i64]) -> Assessed
-    requires { ⌜ (length (now book) ≤ 65528) × (tier1 ≤ 1_000_000_000_000) ⌝ }
+    requires { ⌜ tier1 ≤ 1_000_000_000_000 ⌝ }
     requires { ⌜ (length (now report) ≡ figures) × (length (now ledger) ≡ cells) ⌝ }
     ensures { λ r. ⌜ Answers (ofRecords (now (book .entry))) tier1 (now (report .entry)) (now (ledger .entry)) r (now (report .exit)) (now (ledger .exit)) ⌝ }
 {

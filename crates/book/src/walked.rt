@@ -1,8 +1,6 @@
 // The walk over the book: its records from the first byte on, until they end or one is refused.
 ghost use mathlib.Core.Path.{_≡_};
 ghost use mathlib.Core.List.{[]};
-ghost use Prim.Native.Nat.{_≤_};
-ghost use lib.ListN.{length};
 ghost use Rattle.arrays.specs.Kept.{arraysOf};
 ghost use Rattle.book.specs.Step.{arraysAs};
 ghost use Rattle.book.specs.Walked.{Walks};
@@ -25,7 +23,6 @@ pub fn walk(
     sizes: &mut [u64],
     options: &mut [u64],
 ) -> Walked
-    requires { ⌜ length (now book) ≤ 65528 ⌝ }
     requires { ⌜ arraysAs (now ledger) (now rates) (now addons) (now sizes) (now options) ≡ arraysOf [] ⌝ }
     ensures { λ r. ⌜ Walks (now (book .entry)) r (arraysAs (now (ledger .exit)) (now (rates .exit)) (now (addons .exit)) (now (sizes .exit)) (now (options .exit))) ⌝ }
 {

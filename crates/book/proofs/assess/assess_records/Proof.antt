@@ -23,7 +23,7 @@ slice-aggregate-walk-4 c = search needs
 walk-requires : tie.Need-walk-requires
 walk-requires c κs =
     let start = c .before .before .before .before .before .before .before .before .before in
-    (start .pre .0 .0, nothing-yet _ (start .args .ledger .now) (start .pre .1 .1) (c .before .before .before .before .before .before .clear .ensures))
+    nothing-yet _ (start .args .ledger .now) (start .pre .1 .1) (c .before .before .before .before .before .before .clear .ensures)
 
 enum-known-cause : tie.Need-enum-known-cause
 enum-known-cause c = search needs
@@ -66,7 +66,7 @@ fill-report-requires c κs =
     let start = c .before .before .before .before .before .before .before .before .before .before .before .before .before .before .before .before .before .before .before .before .before .before .before .before .before .before in
     let all = c .before .before .before .before .before .before .before .before .before .before .before .before .before .before .before .before .walk .ensures .all _ (c .before .before .before .before .before .before .before .before .before .masks .given .1) in
     let held = all-holds _ (start .args .tier1) (start .args .report .now) (start .args .ledger .now) (start .pre .1 .1) _ _ all in
-    ((held .ledger-long, held .rates-long, held .addOns-long, start .pre .1 .0), ((start .pre .0 .1, c .before .before .before .before .before .table .ensures), bounds-hold _ (start .args .tier1) (start .args .report .now) (start .args .ledger .now) (start .pre .1 .1) _ _ all _ (c .before .before .before .before .before .before .before .lowest-missing .ensures) (omega arith)))
+    ((held .ledger-long, held .rates-long, held .addOns-long, start .pre .1 .0), ((start .pre .0, c .before .before .before .before .before .table .ensures), bounds-hold _ (start .args .tier1) (start .args .report .now) (start .args .ledger .now) (start .pre .1 .1) _ _ all _ (c .before .before .before .before .before .before .before .lowest-missing .ensures) (omega arith)))
 
 same-length-2 : tie.Need-same-length-2
 same-length-2 c = search needs

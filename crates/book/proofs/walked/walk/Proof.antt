@@ -25,7 +25,7 @@ abbrev μ-loop : tie.MeasureT-loop
 loop-holds : tie.Need-loop-holds Inv-loop μ-loop
 loop-holds c =
     let start = c .before .before .before in
-    (refl, refl, refl, refl, refl, begun _ _ (start .pre .1))
+    (refl, refl, refl, refl, refl, begun _ _ (start .pre))
 
 step-requires : tie.Need-step-requires Inv-loop μ-loop
 step-requires c κs = holds _ _ _ _ (c .before .before .before .before .before .loop .inv .5)
