@@ -4,24 +4,22 @@ use mathlib.Core.Bool.{Bool, true, false, not}
 use mathlib.Core.List.{List}
 use mathlib.Core.Logic.{⊎-elim}
 use mathlib.Core.Path.{_≡_, sym, ap, _∙_}
-use native.Mathlib.Nat.{eq-zero-or-pos, mul-le-mul-left}
+use native.Mathlib.Nat.{mul-le-mul-left}
 use native.Mathlib.Omega.{arith}
-use borrow.Author.Tests.{not-true, not-false}
-use lib.IntN.{ℤ, pos, negℤ, +ℤ-idr}
+use lib.IntN.{ℤ, pos, negℤ}
 use lib.ListN.{getD}
 use lib.Signed.{ltZ}
 use Rattle.laws.specs.Tests.{first}
-use Rattle.laws.proofs.Tests.{lt-or-ge, all-at, all-of, all-not, first-none}
+use Rattle.laws.proofs.Tests.{lt-or-ge, all-of, all-not, first-none}
 use Rattle.laws.proofs.Nearest.{nearest-le}
 use Rattle.laws.proofs.Lists.{tabulate-at, tabulate-past}
 use Rattle.paper.specs.Scales.{billion}
 use Rattle.paper.specs.Curve.{Curve, quarter, shortShare, shockedRate}
 use Rattle.paper.specs.TurnedDown.{badRate, badShocked}
 use Rattle.paper.specs.Sound.{Ranged, Listed}
-use Rattle.paper.proofs.Ranges.{rate-range}
+use Rattle.paper.proofs.Sound as sound
 use Rattle.paper.proofs.SeriesLaws.{under-least, over-positive}
 use Rattle.curve.specs.Shocked.{shortShares, shockedSection}
-use Rattle.curve.proofs.Changes.{no-change}
 
 -- ---- s
 
@@ -64,16 +62,7 @@ module _ (z : Curve) (k : ℕ) where
 module _ (z : Curve) (base : Listed Ranged 19 (z .rates)) (passed : first (badShocked z) 0 19 ≡ 19) where
   -- -50,000 to 300,000
   pub shocked-ranged : (i k : ℕ) → i < 7 → k < 19 → Ranged (shockedRate z i k)
-  unfolding badShocked fine shockedRate
-  shocked-ranged i k l h = ⊎-elim unmoved moved (eq-zero-or-pos i)
-    where
-      unmoved : i ≡ 0 → Ranged (shockedRate z i k)
-      unmoved e = rw (e, no-change (z .shocks) (shortShare k) 0 (λ o. absurd (omega arith)), +ℤ-idr) (base .at (pos 0) k h)
-
-      moved : 0 < i → Ranged (shockedRate z i k)
-      moved p =
-          let none : badShocked z k ≡ false = first-none (badShocked z) 0 19 passed k zero-le h in
-          rate-range _ (not-true _ (all-at (fine z k) 1 6 (not-false _ none) i p l))
+  shocked-ranged = sound.shocked-ranged z base (λ k h. first-none (badShocked z) 0 19 passed k zero-le h)
 
   -- every cell, and the nought past the end
   pub section-ranged : (j : ℕ) → Ranged (getD (shockedSection z) j (pos 0))

@@ -1,15 +1,14 @@
 -- The table's rule, entry by entry, and what its entries and products are at most.
-use Prim.Native.Nat.{ℕ, zero, suc, _*_, _-_, _^_, _≤_, _<_}
+use Prim.Native.Nat.{ℕ, _*_, _-_, _^_, _≤_, _<_}
 use mathlib.Core.List.{[]}
 use mathlib.Core.Path.{_≡_, sym, ap, _∙_}
-use native.Mathlib.Nat.{le-refl, le-trans, mul-le-mul-left}
-use lib.Dec.{lit<}
+use native.Mathlib.Nat.{mul-le-mul-left}
 use lib.ListN.{getD}
 use Rattle.laws.specs.Lists.{tabulate}
 use Rattle.laws.proofs.Lists.{tabulate-at, tabulate-ext}
 use Rattle.laws.proofs.Nearest.{nearest-le}
 use Rattle.paper.specs.Scales.{billion}
-use Rattle.paper.specs.Factor.{entry, digit, afterDigits}
+use Rattle.paper.specs.Factor.{entry}
 use Rattle.paper.proofs.SeriesLaws.{under-least, over-positive}
 use Rattle.paper.proofs.Written.{written, entry-written}
 use Rattle.factor.specs.Table.{rows}
@@ -24,15 +23,7 @@ unfolding rows
 entry-at w d l m =
     ap (λ r. getD r d 0) (tabulate-at (λ i. tabulate (entry i) 10) 11 w [] l) ∙ tabulate-at (entry w) 10 d 0 m
 
--- ---- E is at least 1, so that a factor never grows
-
+-- E is at least 1
 pub entry-most : (w d : ℕ) → entry w d ≤ billion
 unfolding entry
 entry-most w d = let X = d * 10 ^ (10 - w) in nearest-le (over-positive X) (mul-le-mul-left billion (under-least X))
-
-pub after-most : (start Y w : ℕ) → afterDigits start Y w ≤ start
-unfolding afterDigits
-after-most start Y zero = le-refl start
-after-most start Y (suc w) =
-    let v = afterDigits start Y w in
-    le-trans (nearest-le (lit< tt) (mul-le-mul-left v (entry-most w (digit Y w)))) (after-most start Y w)

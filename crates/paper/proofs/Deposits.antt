@@ -27,7 +27,7 @@ pub moved-at-most : (rate amount : ℕ) → rate ≤ wholeRate → moved rate am
 unfolding moved
 moved-at-most rate amount h = omega (arith, mul-le-mul-left amount h)
 
-moved-nil : (rate : ℕ) → moved rate 0 ≡ 0
+pub moved-nil : (rate : ℕ) → moved rate 0 ≡ 0
 unfolding moved
 moved-nil rate = omega arith
 

@@ -61,7 +61,7 @@ entry-nearest : (w d : ℕ) → Nearest (billion * under) (over (d * 10 ^ (10 - 
 unfolding entry
 entry-nearest w d = nearest-is (billion * under) (over (d * 10 ^ (10 - w))) (over-positive (d * 10 ^ (10 - w)))
 
-after-most : (s Y w : ℕ) → afterDigits s Y w ≤ s
+pub after-most : (s Y w : ℕ) → afterDigits s Y w ≤ s
 unfolding afterDigits
 after-most s Y zero = le-refl s
 after-most s Y (suc w) =

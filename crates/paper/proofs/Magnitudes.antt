@@ -41,30 +41,30 @@ coupons-add-up period (suc n) coupon =
       due-once (inMonths (period * suc n)) coupon,
     )
 
-abs-sided : (side n : ℕ) → natAbs (sided side (pos n)) ≡ n
+pub abs-sided : (side : ℕ) (z : ℤ) → natAbs (sided side z) ≡ natAbs z
 unfolding sided
-abs-sided side n = by (side is 1)
+abs-sided side z = by (side is 1)
   where
-    by : (b : Bool) → natAbs (if b then pos n else negℤ (pos n)) ≡ n
+    by : (b : Bool) → natAbs (if b then z else negℤ z) ≡ natAbs z
     by true = refl
-    by false = abs-neg (pos n)
+    by false = abs-neg z
 
 module _ (c i : ℕ) where
   pub size-single : (side : ℕ) (term : Term) (amount : ℕ) → magnitude (flows c (single side term amount)) i ≡ amount
   unfolding magnitude flow flowOf
-  size-single side term amount = sum-ext _ _ buckets (λ k _. abs-sided side (due term amount k)) ∙ due-once term amount
+  size-single side term amount = sum-ext _ _ buckets (λ k _. abs-sided side (pos (due term amount k))) ∙ due-once term amount
 
   pub size-coupons : (side period count coupon principal : ℕ) → magnitude (flows c (coupons side period count coupon principal)) i ≡ count * coupon + principal
   unfolding magnitude flow flowOf
   size-coupons side period count coupon principal =
       let last = inMonths (period * count) in
-      sum-ext _ _ buckets (λ k _. abs-sided side (couponsDue period count coupon k + due last principal k))
+      sum-ext _ _ buckets (λ k _. abs-sided side (pos (couponsDue period count coupon k + due last principal k)))
       ∙ sum-add (couponsDue period count coupon) (due last principal) buckets
       ∙ omega (arith, coupons-add-up period count coupon, due-once last principal)
 
   pub size-floating : (side : ℕ) (reset : Term) (principal coupon : ℕ) → magnitude (flows c (floating side reset principal coupon)) i ≡ principal + coupon
   unfolding magnitude flow flowOf
-  size-floating side reset principal coupon = sum-ext _ _ buckets (λ k _. abs-sided side (due reset (principal + coupon) k)) ∙ due-once reset (principal + coupon)
+  size-floating side reset principal coupon = sum-ext _ _ buckets (λ k _. abs-sided side (pos (due reset (principal + coupon) k))) ∙ due-once reset (principal + coupon)
 
   pub size-deposit : (category whole : ℕ) (core : List ℕ) → length core ≤ buckets → sumOf core ≤ whole → magnitude (flows c (deposit category whole core)) i ≡ whole
   unfolding magnitude flow flowOf

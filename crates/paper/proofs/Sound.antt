@@ -43,7 +43,7 @@ none-bad p e k l =
     let end : buckets ≤ first p 0 buckets = ltb-false _ _ e in
     first-none p 0 buckets (omega (arith, first-to p 0 buckets)) k (omega arith) l
 
-shocked-ranged : (z : Curve) → Listed Ranged buckets (z .rates) → ((k : ℕ) → k < buckets → badShocked z k ≡ false)
+pub shocked-ranged : (z : Curve) → Listed Ranged buckets (z .rates) → ((k : ℕ) → k < buckets → badShocked z k ≡ false)
     → (i k : ℕ) → i < 7 → k < buckets → Ranged (shockedRate z i k)
 unfolding shockedRate rateChanges badShocked
 shocked-ranged z base ok i k l m = ⊎-elim still moved (eq-zero-or-pos i)

@@ -8,7 +8,7 @@ use mir.Syntax.{w64}
 use mir.Val.{SFits}
 use borrow.Author.Tests.{eq-eqb, ne-eqb}
 use Rattle.laws.specs.Tests.{if_then_else_, _is_}
-use Rattle.laws.proofs.Integers.{zero-sub, abs-add, abs-neg, abs-sub}
+use Rattle.laws.proofs.Integers.{zero-sub, abs-add, abs-sub}
 use Rattle.laws.proofs.Fits.{sfits-abs}
 use Rattle.paper.specs.Ladder.{buckets}
 use Rattle.paper.specs.Flow.{sided}
@@ -29,14 +29,6 @@ sided-nil side = by (side is 1)
     by : (b : Bool) → (if b then pos 0 else negℤ (pos 0)) ≡ pos 0
     by true = refl
     by false = refl
-
-pub abs-sided : (side : ℕ) (z : ℤ) → natAbs (sided side z) ≡ natAbs z
-unfolding sided
-abs-sided side z = by (side is 1)
-  where
-    by : (b : Bool) → natAbs (if b then z else negℤ z) ≡ natAbs z
-    by true = refl
-    by false = abs-neg z
 
 -- ---- sums that fit 64 bits
 

@@ -13,7 +13,7 @@ use Rattle.paper.specs.Ladder.{buckets}
 use Rattle.paper.specs.Records.{deposit, termDeposit, flows}
 use Rattle.paper.specs.Behaviour.{depositFlow, moved, withdrawalRate, termDepositFlow}
 use Rattle.paper.specs.Flow.{sided, flowOf, flow}
-use Rattle.paper.proofs.Deposits.{deposit-adds-up, term-deposit-adds-up}
+use Rattle.paper.proofs.Deposits.{moved-nil, deposit-adds-up, term-deposit-adds-up}
 use Rattle.laws.proofs.Filled.{Filled}
 use Rattle.posting.proofs.Loops.{raised}
 
@@ -33,10 +33,6 @@ unfolding sided flow flowOf
 core-flow c category whole core i k = refl
 
 -- ---- kind 6
-
-moved-nil : (rate : ℕ) → moved rate 0 ≡ 0
-unfolding moved
-moved-nil rate = omega arith
 
 -- what stays of each amount, and in bucket 1 all that moved
 pub withdrawn-row : (rate : ℕ) (amounts row : List ℕ) (early : ℕ) → length amounts ≤ buckets → length row ≡ buckets

@@ -20,7 +20,7 @@ use Rattle.paper.specs.Flow.{sided, adds}
 use Rattle.paper.specs.Sound.{Listed, Small}
 use Rattle.arrays.specs.Slots.{plusℤ, withAddOns}
 use Rattle.posting.specs.Parts.{AtMostℤ}
-use Rattle.posting.proofs.Sides.{abs-sided}
+use Rattle.paper.proofs.Magnitudes.{abs-sided}
 use Rattle.slotting.specs.Parts.{optionMagnitude}
 
 pub values-small : (values : List ℤ) → Listed Small 6 values → AtMostℤ billion values

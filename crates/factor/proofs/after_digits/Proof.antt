@@ -7,7 +7,8 @@ use native.Mathlib.Omega.{arith}
 use borrow.Author.Needs.{needs}
 use lib.ListN.{getD}
 use Rattle.paper.specs.Factor.{entry, digit, afterDigits}
-use Rattle.factor.proofs.Entries.{entry-at, entry-most, after-most}
+use Rattle.paper.proofs.FactorClose.{after-most}
+use Rattle.factor.proofs.Entries.{entry-at, entry-most}
 use Rattle.factor.proofs.Digits.{Reading, begun, weighs, digit-is, digit-low, turn}
 use Rattle.factor.proofs.after_digits.Statement.{statement}
 use Rattle.factor.proofs.after_digits.Tie as tie

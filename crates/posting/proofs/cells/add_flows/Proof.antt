@@ -6,7 +6,8 @@ use lib.ListN.{length, getD}
 use borrow.Author.Needs.{needs}
 use Rattle.paper.specs.Flow.{sided}
 use Rattle.posting.proofs.Loops.{Joining, joining-none, joining-rest, joining-next, joining-done}
-use Rattle.posting.proofs.Sides.{abs-sided, sum-fits}
+use Rattle.paper.proofs.Magnitudes.{abs-sided}
+use Rattle.posting.proofs.Sides.{sum-fits}
 use Rattle.posting.proofs.cells.add_flows.Statement.{statement}
 use Rattle.posting.proofs.cells.add_flows.Tie as tie
 

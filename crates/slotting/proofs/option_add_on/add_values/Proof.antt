@@ -9,7 +9,8 @@ use borrow.Author.Needs.{needs}
 use Rattle.laws.proofs.Fits.{back}
 use Rattle.paper.specs.Flow.{sided}
 use Rattle.posting.proofs.Loops.{Joining, joining-none, joining-rest, joining-next, joining-done}
-use Rattle.posting.proofs.Sides.{abs-sided, sum-fits}
+use Rattle.paper.proofs.Magnitudes.{abs-sided}
+use Rattle.posting.proofs.Sides.{sum-fits}
 use Rattle.slotting.proofs.option_add_on.add_values.Statement.{statement}
 use Rattle.slotting.proofs.option_add_on.add_values.Tie as tie
 

@@ -7,7 +7,7 @@ use borrow.Author.Needs.{needs}
 use Rattle.arrays.specs.Slots.{plusℤ}
 use Rattle.posting.specs.Parts.{column, trillion}
 use Rattle.posting.proofs.Loops.{replicate-all}
-use Rattle.posting.proofs.Sides.{abs-sided}
+use Rattle.paper.proofs.Magnitudes.{abs-sided}
 use Rattle.posting.proofs.Limit.{entered, same-size}
 use Rattle.slotting.proofs.Entered.{due-column}
 use Rattle.slotting.proofs.single.slot_due.Statement.{statement}
