@@ -13,6 +13,10 @@ use Rattle.paper.specs.Behaviour.{depositFlow, prepaymentRate, withdrawa
 abbrev pub scenarios : ℕ
 scenarios = 7
 
+-- the six, 1 to 6
+abbrev pub shocked : ℕ
+shocked = 6
+
 -- side 1 is plus, an asset or an option sold; side 2 is minus, a liability or an option bought
 unfoldable pub sided : ℕ → ℤ → ℤ
 sided side z = if side is 1 then z else negℤ z

@@ -108,8 +108,11 @@ unfoldable pub badCapital : ℕ → Bool
 badCapital T = not (1 upTo T && T upTo 1000000000000)
 
 -- 17: book above 65,528 bytes
+abbrev pub longestBook : ℕ
+longestBook = 65528
+
 unfoldable pub bookTooLong : ℕ → Bool
-bookTooLong bytes = 65528 below bytes
+bookTooLong bytes = longestBook below bytes
 
 -- 18: report room below 58 or ledger room below 1,064
 unfoldable pub roomTooSmall : ℕ → ℕ → Bool
