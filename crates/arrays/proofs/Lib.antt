@@ -2,5 +2,11 @@
 pub mod Parts
 -- the arrays of nothing kept, of one record more, and read back
 pub mod More
--- a place reads the same by the records kept and by the arrays
+-- what the arrays of good records keep to, and a currency's parts
+pub mod Bounds
+-- 14 by a currency's own parts
+pub mod Limit
+-- the masks
+pub mod Sets
+-- a place reads the same by the records kept, by the arrays and by a currency's parts
 pub mod Agree

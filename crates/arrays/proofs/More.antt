@@ -11,32 +11,33 @@ use Rattle.laws.specs.Sums.{total, totalℤ}
 use Rattle.laws.proofs.Lists.{tabulate-length, tabulate-at, tabulate-ext, tabulate-const}
 use Rattle.paper.specs.Ladder.{buckets}
 use Rattle.paper.specs.Records.{Record, currencies, currencyOf}
-use Rattle.paper.specs.Flow.{scenarios, flow, adds, gives, magnitude}
+use Rattle.paper.specs.Flow.{scenarios, shocked, flow, adds, gives, magnitude}
 use Rattle.paper.specs.Ledger.{sectionSize, cells, ofCurrency, ofCurrencyℤ, totals, soFar, ledgerOf}
 use Rattle.paper.proofs.Limits.{ofCurrency-more, ofCurrencyℤ-more}
 use Rattle.arrays.specs.Rooms.{cellBy, addOnBy, sizeBy, optionSizeBy}
-use Rattle.arrays.specs.Slots.{plusℤ, withFlows, withSizes, withAddOns, withOptionSizes}
-use Rattle.arrays.specs.Kept.{Arrays, byCurrency, arraysOf, inPart, withRates, withRecord}
-use Rattle.arrays.proofs.Parts.{start-is, part-more}
+use Rattle.arrays.specs.Slots.{plusℤ, withFlows, withRates, withSizes, withAddOns, withOptionSizes}
+use Rattle.arrays.specs.Arrays.{Arrays, byCurrency, arraysOf, partOf, putBack, inParts, withRecord}
+use Rattle.arrays.proofs.Parts.{joinedPart, start-is, part-more}
 
 -- the ledger's rule, part by part
-pub ledger-by : (cell : ℕ → ℕ → ℕ → ℤ) → ledgerOf cell ≡ byCurrency sectionSize (λ c j. cell c (j / buckets) (j % buckets))
+pub ledger-by : (cell : ℕ → ℕ → ℕ → ℤ) → ledgerOf currencies cell ≡ byCurrency sectionSize (λ c j. cell c (j / buckets) (j % buckets))
 unfolding ledgerOf byCurrency
 ledger-by cell =
-    tabulate-ext _ _ cells
+    tabulate-ext _ _ (cells currencies)
     (λ j l. let same : j % buckets ≡ j % sectionSize % buckets = omega arith in ap (cell (suc (j / sectionSize)) (j % sectionSize / buckets)) same)
 
 -- ---- nothing kept
 
 pub nothing-kept : arraysOf [] ≡ record {
-  ledger = replicate cells (pos 0);
-  rates = replicate cells (pos 0);
-  addOns = replicate 48 (pos 0);
-  sizes = replicate 56 0;
-  optionSizes = replicate 48 0;
+  ledger = replicate (cells currencies) (pos 0);
+  rates = replicate (cells currencies) (pos 0);
+  addOns = replicate (shocked * currencies) (pos 0);
+  sizes = replicate (scenarios * currencies) 0;
+  optionSizes = replicate (shocked * currencies) 0;
 }
 unfolding arraysOf ledgerOf byCurrency ofCurrency ofCurrencyℤ total totalℤ
-nothing-kept = simp (tabulate-const (pos 0) 48, tabulate-const (pos 0) cells, tabulate-const {A = ℕ} 0 48, tabulate-const {A = ℕ} 0 56)
+nothing-kept =
+    simp (tabulate-const (pos 0) (shocked * currencies), tabulate-const (pos 0) (cells currencies), tabulate-const {A = ℕ} 0 (shocked * currencies), tabulate-const {A = ℕ} 0 (scenarios * currencies))
 
 -- ---- one record more
 
@@ -47,16 +48,16 @@ same-arrays e f g h i = cc
 
 module _ (kept : List Record) (r : Record) (l : 1 ≤ currencyOf r) (h : currencyOf r ≤ currencies) where
   -- by the ledger's rule
-  cells-more : (f : Record → ℕ → ℕ → ℤ) → ledgerOf (λ c i k. ofCurrencyℤ (λ x. f x i k) c (kept ++ (r ∷ [])))
-      ≡ inPart sectionSize (currencyOf r) (λ part. plusℤ part (λ j. f r (j / buckets) (j % buckets))) (ledgerOf (λ c i k. ofCurrencyℤ (λ x. f x i k) c kept))
+  cells-more : (f : Record → ℕ → ℕ → ℤ) → ledgerOf currencies (λ c i k. ofCurrencyℤ (λ x. f x i k) c (kept ++ (r ∷ [])))
+      ≡ joinedPart (λ part. plusℤ part (λ j. f r (j / buckets) (j % buckets))) sectionSize (currencyOf r) (ledgerOf currencies (λ c i k. ofCurrencyℤ (λ x. f x i k) c kept))
   cells-more f =
       ledger-by _
       ∙ part-more _+ℤ_ (pos 0) +ℤ-idr sectionSize (currencyOf r) _ _ (λ j. f r (j / buckets) (j % buckets)) (omega arith) l h
       (λ b j _. ofCurrencyℤ-more b kept r (λ x. f x (j / buckets) (j % buckets)))
-      ∙ ap (inPart sectionSize (currencyOf r) (λ part. plusℤ part (λ j. f r (j / buckets) (j % buckets)))) (sym (ledger-by (λ c i k. ofCurrencyℤ (λ x. f x i k) c kept)))
+      ∙ ap (joinedPart (λ part. plusℤ part (λ j. f r (j / buckets) (j % buckets))) sectionSize (currencyOf r)) (sym (ledger-by (λ c i k. ofCurrencyℤ (λ x. f x i k) c kept)))
 
   pub arrays-more : arraysOf (kept ++ (r ∷ [])) ≡ withRecord r (arraysOf kept)
-  unfolding arraysOf withRecord withFlows withRates withAddOns withSizes withOptionSizes
+  unfolding arraysOf withRecord inParts withFlows withRates withAddOns withSizes withOptionSizes
   arrays-more =
       same-arrays (cells-more flow) (cells-more gives)
       (part-more _+ℤ_ (pos 0) +ℤ-idr 6 (currencyOf r) _ _ (λ j. adds r (suc j)) (omega arith) l h (λ b j _. ofCurrencyℤ-more b kept r (λ x. adds x (suc j))))
@@ -79,7 +80,7 @@ module _ {A : Type 0} (d : A) where
       let rest : n % width ≡ j = omega (arith, start-is width c n (sym part)) in
       tabulate-at (λ i. f (suc (i / width)) (i % width)) (width * currencies) n d inside ∙ rw (part, rest)
 
-pub cell-is : (cell : ℕ → ℕ → ℕ → ℤ) (c i k : ℕ) → 1 ≤ c → c ≤ currencies → i < scenarios → k < buckets → cellBy (ledgerOf cell) c i k ≡ cell c i k
+pub cell-is : (cell : ℕ → ℕ → ℕ → ℤ) (c i k : ℕ) → 1 ≤ c → c ≤ currencies → i < scenarios → k < buckets → cellBy (ledgerOf currencies cell) c i k ≡ cell c i k
 unfolding cellBy
 cell-is cell c i k l h m n =
     let j : ℕ = buckets * i + k in

@@ -12,9 +12,9 @@ use Rattle.laws.specs.Tests.{if_then_else_, _is_, _upTo_, _below_}
 use Rattle.laws.specs.Lists.{tabulate, joined, section, splice}
 use Rattle.laws.proofs.Tests.{lt-or-ge}
 use Rattle.laws.proofs.Lists.{tabulate-length, tabulate-at, tabulate-ext}
-use Rattle.laws.proofs.Joined.{joined-section, joined-tabulate}
+use Rattle.laws.proofs.Joins.{joined-section, joined-tabulate}
 use Rattle.paper.specs.Records.{currencies}
-use Rattle.arrays.specs.Kept.{byCurrency, inPart}
+use Rattle.arrays.specs.Arrays.{byCurrency, partOf, putBack}
 
 -- ---- places: which of the whole lie in the part of the currency c
 
@@ -53,10 +53,14 @@ part-test width c j w l = by (lt-or-ge j a) (lt-or-ge j (a + width))
 
 -- ---- one record more
 
+-- the part of the currency c replaced by what f makes of it
+abbrev pub joinedPart : {A : Type 0} → (List A → List A) → ℕ → ℕ → List A → List A
+joinedPart f width c l = putBack width c l (f (partOf width c l))
+
 module _ {A : Type 0} (op : A → A → A) (d : A) (idr : (x : A) → op x d ≡ x) where
   pub part-more : (width c : ℕ) (g g' : ℕ → ℕ → A) (f : ℕ → A) → 0 < width → 1 ≤ c → c ≤ currencies
       → ((b j : ℕ) → j < width → g' b j ≡ op (g b j) (if c is b then f j else d))
-      → byCurrency width g' ≡ inPart width c (λ part. joined op d part f) (byCurrency width g)
+      → byCurrency width g' ≡ joinedPart (λ part. joined op d part f) width c (byCurrency width g)
   unfolding byCurrency
   part-more width c g g' f w l h more =
       let n : ℕ = width * currencies in

@@ -1,3 +1,4 @@
+pub mod Masks
 pub mod Rooms
 pub mod Slots
-pub mod Kept
+pub mod Arrays

@@ -1,4 +1,4 @@
--- What a record puts into its currency's own parts of the arrays: 133 cells, 7 sizes, 6 option sizes, 6 add-ons.
+-- What a record puts into its currency's own parts of the arrays: 133 cells and 133 rates, 7 sizes, 6 option sizes, 6 add-ons.
 use Prim.Native.Nat.{ℕ, suc, _+_, _/_, _%_}
 use mathlib.Core.Bool.{Bool, not}
 use mathlib.Core.List.{List}
@@ -9,7 +9,7 @@ use Rattle.laws.specs.Lists.{joined}
 use Rattle.paper.specs.Scales.{billion}
 use Rattle.paper.specs.Ladder.{buckets}
 use Rattle.paper.specs.Records.{Record}
-use Rattle.paper.specs.Flow.{flow, adds, magnitude}
+use Rattle.paper.specs.Flow.{flow, adds, gives, magnitude}
 
 -- f j added to each element j
 abbrev pub plus : List ℕ → (ℕ → ℕ) → List ℕ
@@ -21,14 +21,22 @@ plusℤ = joined _+ℤ_ (pos 0)
 unfoldable pub withFlows : Record → List ℤ → List ℤ
 withFlows r section = plusℤ section (λ j. flow r (j / buckets) (j % buckets))
 
+-- a curve's rates added to its currency's part, which is nil before it
+unfoldable pub withRates : Record → List ℤ → List ℤ
+withRates r part = plusℤ part (λ j. gives r (j / buckets) (j % buckets))
+
 unfoldable pub withSizes : Record → List ℕ → List ℕ
 withSizes r sizes = plus sizes (magnitude r)
 
 unfoldable pub withAddOns : Record → List ℤ → List ℤ
 withAddOns r addOns = plusℤ addOns (λ j. adds r (suc j))
 
+-- a record's option magnitudes, scenarios 1 to 6 in turn
+abbrev pub optionMagnitude : Record → ℕ → ℕ
+optionMagnitude r j = natAbs (adds r (suc j))
+
 unfoldable pub withOptionSizes : Record → List ℕ → List ℕ
-withOptionSizes r sizes = plus sizes (λ j. natAbs (adds r (suc j)))
+withOptionSizes r sizes = plus sizes (optionMagnitude r)
 
 -- 14, of one currency: with the record under test each of its n sums stays at or below a billion
 unfoldable pub roomFor : (ℕ → ℕ) → List ℕ → ℕ → Bool

@@ -8,11 +8,12 @@ use lib.ListN.{length}
 use Rattle.laws.specs.Tests.{if_then_else_, _is_, _upTo_}
 use Rattle.paper.specs.declared.Refusal.{Refusal}
 use Rattle.paper.specs.Ledger.{SoFar, soFar}
-use Rattle.paper.specs.Records.{Record}
+use Rattle.paper.specs.Records.{Record, currencies}
 use Rattle.paper.specs.Refusals.{numberOf, Checked, accepted, refused, _>>=_, _>>_, unless, refuseIf}
 use Rattle.paper.specs.Fields.{field, each}
 use Rattle.paper.specs.Decode.{decodeSingle, decodeCoupons, decodeFloating, decodeDeposit, decodeLoan, decodeTermDeposit, decodeOption, decodeCurve, decode}
-use Rattle.paper.specs.Book.{placed, admitted, recordAt, nextAt, walkFrom, walk, touchesNothing}
+use Rattle.paper.specs.Book.{placed, admitted, recordAt, nextAt, walkFrom, walk, covered, touchesNothing}
+use Rattle.load.specs.Load.{ofRecords}
 
 -- kept, or refused for a cause below 16
 data Cleared {A : Type 0} : Checked A → Type 0 where
@@ -55,45 +56,45 @@ either false h k = k
 -- ---- the kinds
 
 module _ (body : List ℕ) where
-  of-single : Cleared (decodeSingle body)
+  of-single : Cleared (decodeSingle currencies body)
   unfolding decodeSingle touchesNothing numberOf
   of-single =
       followed (read _ _ _ _ refl) (λ _. followed (read _ _ _ _ refl) (λ _. followed (read _ _ _ _ refl) (λ _. followed (read _ _ _ _ refl) (λ _. followed (read _ _ _ _ refl) (λ _. kept)))))
 
-  of-coupons : Cleared (decodeCoupons body)
+  of-coupons : Cleared (decodeCoupons currencies body)
   unfolding decodeCoupons touchesNothing numberOf
   of-coupons =
       followed (read _ _ _ _ refl) (λ _. followed (read _ _ _ _ refl) (λ _. followed (read _ _ _ _ refl) (λ _. followed (read _ _ _ _ refl) (λ _. followed (read _ _ _ _ refl) (λ _. followed (read _ _ _ _ refl) (λ _. kept))))))
 
-  of-floating : Cleared (decodeFloating body)
+  of-floating : Cleared (decodeFloating currencies body)
   unfolding decodeFloating touchesNothing numberOf
   of-floating =
       followed (read _ _ _ _ refl) (λ _. followed (read _ _ _ _ refl) (λ _. followed (read _ _ _ _ refl) (λ _. followed (read _ _ _ _ refl) (λ _. followed (read _ _ _ _ refl) (λ _. followed (read _ _ _ _ refl) (λ _. kept))))))
 
-  of-deposit : Cleared (decodeDeposit body)
+  of-deposit : Cleared (decodeDeposit currencies body)
   unfolding decodeDeposit touchesNothing numberOf
   of-deposit =
       followed (read _ _ _ _ refl) (λ _. followed (read _ _ _ _ refl) (λ _. followed (read _ _ _ _ refl) (λ _. followed (reads _ (λ o. read _ _ _ _ refl) _ _) (λ _. tests _ _ _ refl (tests _ _ _ refl kept)))))
 
-  of-loan : Cleared (decodeLoan body)
+  of-loan : Cleared (decodeLoan currencies body)
   unfolding decodeLoan touchesNothing numberOf
   of-loan =
       followed (read _ _ _ _ refl) (λ _. followed (read _ _ _ _ refl) (λ _. followed (reads _ (λ o. read _ _ _ _ refl) _ _) (λ _. followed (reads _ (λ o. read _ _ _ _ refl) _ _) (λ _. tests _ _ _ refl (tests _ _ _ refl kept)))))
 
-  of-term-deposit : Cleared (decodeTermDeposit body)
+  of-term-deposit : Cleared (decodeTermDeposit currencies body)
   unfolding decodeTermDeposit touchesNothing numberOf
   of-term-deposit = followed (read _ _ _ _ refl) (λ _. followed (read _ _ _ _ refl) (λ _. followed (reads _ (λ o. read _ _ _ _ refl) _ _) (λ _. kept)))
 
-  of-option : Cleared (decodeOption body)
+  of-option : Cleared (decodeOption currencies body)
   unfolding decodeOption touchesNothing numberOf
   of-option = followed (read _ _ _ _ refl) (λ _. followed (read _ _ _ _ refl) (λ _. followed (reads _ (λ o. read _ _ _ _ refl) _ _) (λ _. kept)))
 
-  of-curve : (curved : ℕ → Bool) → Cleared (decodeCurve curved body)
+  of-curve : (curved : ℕ → Bool) → Cleared (decodeCurve currencies curved body)
   unfolding decodeCurve touchesNothing numberOf
   of-curve curved =
       followed (read _ _ _ _ refl) (λ _. tests _ _ _ refl (followed (reads _ (λ o. read _ _ _ _ refl) _ _) (λ _. followed (read _ _ _ _ refl) (λ _. followed (read _ _ _ _ refl) (λ _. followed (read _ _ _ _ refl) (λ _. tests _ _ _ refl kept))))))
 
-  of-kind : (curved : ℕ → Bool) (kind : ℕ) → Cleared (decode curved kind body)
+  of-kind : (curved : ℕ → Bool) (kind : ℕ) → Cleared (decode currencies curved kind body)
   unfolding decode touchesNothing numberOf
   of-kind curved kind =
       either (kind is 1) of-single
@@ -112,15 +113,18 @@ unfolding placed
 placed-cleared at kept = kept
 placed-cleared at (cleared h) = cleared h
 
-of-record : (before : SoFar) (book : List ℕ) (at : ℕ) → Cleared (recordAt before book at)
+of-record : (before : SoFar) (book : List ℕ) (at : ℕ) → Cleared (recordAt currencies before book at)
 unfolding recordAt admitted touchesNothing numberOf
 of-record before book at = placed-cleared at (tests _ _ _ refl (tests _ _ _ refl (followed (of-kind _ _ _) (λ r. at-last _ _ _ r refl))))
 
-of-walk : (fuel : ℕ) (book : List ℕ) (at : ℕ) (records : List Record) → Cleared (walkFrom fuel book at records)
+of-walk : (fuel : ℕ) (book : List ℕ) (at : ℕ) (records : List Record) → Cleared (walkFrom currencies fuel book at records)
 unfolding walkFrom
 of-walk zero book at records = kept
 of-walk (suc fuel) book at records = either (length book upTo at) kept (followed (of-record (soFar records) book at) (λ r. of-walk fuel book (nextAt book at) (records ++ (r ∷ []))))
 
-pub walk-clears : (book : List ℕ) (q : Refusal) (place : ℕ) → walk book ≡ refused q place → touchesNothing q ≡ false
-unfolding walk
-walk-clears book q place e = cause-cleared (of-walk (length book) book 0 []) q place e
+of-records : (book : List ℕ) → Cleared (ofRecords book)
+unfolding walk covered touchesNothing numberOf
+of-records book = followed (of-walk (length book) book 0 []) (λ records. at-last _ _ _ records refl)
+
+pub records-clear : (book : List ℕ) (q : Refusal) (place : ℕ) → ofRecords book ≡ refused q place → touchesNothing q ≡ false
+records-clear book q place e = cause-cleared (of-records book) q place e

@@ -5,9 +5,9 @@ use mathlib.Core.Path.{_≡_, sym, ap, _∙_}
 use native.Mathlib.Omega.{arith}
 use lib.IntN.{ℤ, pos}
 use lib.ListN.{getD, replicate}
-use Rattle.paper.specs.declared.Refusal.{Refusal}
+use Rattle.paper.specs.declared.Fault.{Fault}
 use Rattle.paper.specs.Refusals.{Checked, accepted}
-use Rattle.paper.specs.Records.{Record}
+use Rattle.paper.specs.Records.{Record, currencies}
 use Rattle.paper.specs.Ledger.{totals}
 use Rattle.paper.specs.Verdict.{changeAt, verdictAt, reportOf}
 use Rattle.paper.specs.Book.{outcome, reportAfter}
@@ -25,15 +25,16 @@ abbrev nilLedger : List ℤ
 nilLedger = replicate 1064 (pos 0)
 
 -- what is permitted of an accepted book, in these rooms, is its report
-reported : {book : List ℕ} {T : ℕ} {a : Assessed} {report' ledger' : List ℤ} (kept : List Record) → outcome book T 58 1064 ≡ accepted kept
-    → Assesses book T nilReport nilLedger a report' ledger' → report' ≡ reportOf (totals kept) T
+reported : {book : List ℕ} {T : ℕ} {a : Assessed} {report' ledger' : List ℤ} (kept : List Record) → outcome currencies book T 58 1064 ≡ accepted kept
+    → Assesses book T nilReport nilLedger a report' ledger' → report' ≡ reportOf currencies (totals kept) T
 unfolding reportAfter
-reported {T = T} kept e p = p .answers .report-is ∙ ap (λ (o : Checked (List Record)). reportAfter o T nilReport) e ∙ append-nil (reportOf (totals kept) T)
+reported {T = T} kept e p =
+    p .answers .report-is ∙ ap (λ (o : Checked (List Record)). reportAfter currencies o T nilReport) e ∙ append-nil (reportOf currencies (totals kept) T)
 
 -- one that refuses everything
-pub not-all-refused : {report' ledger' : List ℤ} (q : Refusal) (place : ℕ) → Assesses example.example 4214126 nilReport nilLedger (Refused q place) report' ledger' → ⊥
+pub not-all-refused : {report' ledger' : List ℤ} (f : Fault) → Assesses example.example 4214126 nilReport nilLedger (Refused f) report' ledger' → ⊥
 unfolding told answerOf
-not-all-refused q place p =
+not-all-refused f p =
     let said = p .answers .says ∙ ap answerOf (example.over-reported .accepts) in
     let z : _≡_ {A = ℕ} 0 1 = cc in omega arith
 
@@ -53,14 +54,14 @@ module _ {a : Assessed} {report' ledger' : List ℤ} where
   not-fixed p q =
       let over = reported example.kept (example.over-reported .accepts) p ∙ example.over-reported .report in
       let within = reported example.kept (example.within-reported .accepts) q ∙ example.within-reported .report in
-      let figure : pos 1 ≡ pos 2 = ap (λ (l : List ℤ). getD l verdictAt (pos 0)) (sym over ∙ within) in
+      let figure : pos 1 ≡ pos 2 = ap (λ (l : List ℤ). getD l (verdictAt currencies) (pos 0)) (sym over ∙ within) in
       let z : _≡_ {A = ℕ} 1 2 = cc in omega arith
 
   -- one that always says "close"
-  pub not-always-close : Assesses example.example 4214126 nilReport nilLedger a report' ledger' → getD report' verdictAt (pos 0) ≡ pos 3 → ⊥
+  pub not-always-close : Assesses example.example 4214126 nilReport nilLedger a report' ledger' → getD report' (verdictAt currencies) (pos 0) ≡ pos 3 → ⊥
   unfolding example.stated
   not-always-close p e =
-      let figure : getD report' verdictAt (pos 0) ≡ pos 1 = ap (λ (l : List ℤ). getD l verdictAt (pos 0)) (reported example.kept (example.over-reported .accepts) p ∙ example.over-reported .report) in
+      let figure : getD report' (verdictAt currencies) (pos 0) ≡ pos 1 = ap (λ (l : List ℤ). getD l (verdictAt currencies) (pos 0)) (reported example.kept (example.over-reported .accepts) p ∙ example.over-reported .report) in
       let z : _≡_ {A = ℕ} 1 3 = cc in omega arith
 
   -- in the book of two currencies: what it reports at a place

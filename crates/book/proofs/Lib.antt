@@ -1,23 +1,8 @@
--- the reader
-pub mod Standing
-pub mod Reading
--- the arrays and masks of the records kept, and the walk's invariant
-pub mod Holding
-pub mod Sets
-pub mod Missing
-pub mod Taking
-pub mod Returned
-pub mod Alike
-pub mod Room
-pub mod Stepping
-pub mod Dispatch
-pub mod Turning
-pub mod Curving
-pub mod Walking
-pub mod Walks
+-- no record is refused for one of 16 to 18
 pub mod Causes
-pub mod Answering
-pub mod Facing
+-- the ways out of `assess`, and its face
+pub mod Outcome
+pub mod FaceLaws
 -- what `assess` promises
 pub mod Truth
 pub mod Unique

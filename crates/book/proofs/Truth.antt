@@ -20,13 +20,13 @@ use Rattle.book.specs.Assessed.{Assesses, Truthful}
 
 -- ---- a report's length
 
-pub report-long : (t : Totals) (T : ℕ) → length (reportOf t T) ≡ figures
+pub report-long : (t : Totals) (T : ℕ) → length (reportOf currencies t T) ≡ figures currencies
 unfolding reportOf reportFrom changesOf
 report-long t T = simp (length-append, tabulateFrom-length)
 
 -- ---- a report whose figures are those of another is as true
 
-same-figures : {t : Totals} {T : ℕ} {report other : List ℤ} → ((j : ℕ) → j < figures → figure other j ≡ figure report j) → Demand3 t T report → Demand3 t T other
+same-figures : {t : Totals} {T : ℕ} {report other : List ℤ} → ((j : ℕ) → j < figures currencies → figure other j ≡ figure report j) → Demand3 currencies t T report → Demand3 currencies t T other
 same-figures {t} {T} {report} {other} e d = record {
   changes = λ c i l h p n. rw (e (6 * (c - 1) + (i - 1)) (omega arith)) (d .changes c i l h p n);
   sums = λ i p n. rw (e (6 * currencies + (i - 1)) (omega arith)) (d .sums i p n);
@@ -42,10 +42,10 @@ unfolding reportAfter
 truthful {book} {T} {report} {ledger} {report'} p = record {
   holds = λ kept e.
       let t : Totals = totals kept in
-      let is : report' ≡ reportOf t T ++ drop figures report = p .answers .report-is ∙ ap (λ (o : Checked (List Record)). reportAfter o T report) e in
+      let is : report' ≡ reportOf currencies t T ++ drop (figures currencies) report = p .answers .report-is ∙ ap (λ (o : Checked (List Record)). reportAfter currencies o T report) e in
       same-figures
-      (λ j l. ap (λ (r : List ℤ). figure r j) is ∙ List·getD-append (reportOf t T) (drop figures report) (pos 0) j (omega (arith, report-long t T)))
-      (accepted-true book T (length report) (length ledger) kept e);
+      (λ j l. ap (λ (r : List ℤ). figure r j) is ∙ List·getD-append (reportOf currencies t T) (drop (figures currencies) report) (pos 0) j (omega (arith, report-long t T)))
+      (accepted-true currencies book T (length report) (length ledger) kept e);
 }
 
 -- the second clause follows from the first

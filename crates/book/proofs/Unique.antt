@@ -1,4 +1,4 @@
--- Any two outcomes that the contracts of `assess`, its face and the walk permit are one.
+-- Any two outcomes that the contracts of `assess` and its face permit are one.
 use Prim.Native.Nat.{ℕ, suc, _-_}
 use mathlib.Core.Bool.{Bool}
 use mathlib.Core.List.{List}
@@ -12,24 +12,12 @@ use Rattle.paper.specs.Refusals.{numberOf, Checked, accepted, refused}
 use Rattle.paper.specs.Records.{Record, currencies}
 use Rattle.paper.specs.Ledger.{curved}
 use Rattle.paper.proofs.Numbers.{one-refusal}
-use Rattle.arrays.specs.Rooms.{curvedBy}
-use Rattle.arrays.specs.Kept.{Arrays, arraysOf, MaskOf}
-use Rattle.book.specs.declared.masks.Masks.{Masks}
-use Rattle.book.specs.declared.walked.Walked.{Walked}
-use Rattle.book.specs.declared.walked.Walked.the-variants.{All, Refused as Stopped}
+use Rattle.arrays.specs.Masks.{MaskOf}
+use Rattle.arrays.proofs.Sets.{one-mask}
 use Rattle.book.specs.declared.assess.Assessed.{Assessed}
 use Rattle.book.specs.declared.assess.Assessed.the-variants.{Reported, Refused}
-use Rattle.book.specs.Walked.{AllKept, Walks}
 use Rattle.book.specs.Assessed.{told, answerOf, Assesses}
 use Rattle.book.specs.Face.{Faced}
-
--- a set of currencies has one mask
-one-mask : {curves other : ℕ} {set : ℕ → Bool} → MaskOf curves set → MaskOf other set → curves ≡ other
-unfolding curvedBy
-one-mask {curves} {other} p q =
-    same-members currencies curves other (p .small) (q .small) (λ i l.
-    let e : suc i - 1 ≡ i = omega arith in
-    ap (has curves) (sym e) ∙ p .has-it (suc i) (omega arith) (omega arith) ∙ sym (q .has-it (suc i) (omega arith) (omega arith)) ∙ ap (has other) e)
 
 -- whatever the two masks are of, it is the same set
 one-answer : (o : Checked (List Record)) (a b : Assessed) → told a ≡ answerOf o → told b ≡ answerOf o
@@ -37,14 +25,14 @@ one-answer : (o : Checked (List Record)) (a b : Assessed) → told a ≡ answerO
     → ((curves : ℕ) (kept : List Record) → b ≡ Reported curves → o ≡ accepted kept → MaskOf curves (curved kept)) → a ≡ b
 unfolding told answerOf
 one-answer (accepted kept) (Reported m) (Reported n) e f p q = ap Reported (one-mask (p m kept refl refl) (q n kept refl refl))
-one-answer (accepted kept) (Refused r place) b e f p q = let z : _≡_ {A = ℕ} 0 1 = cc in absurd (omega arith)
-one-answer (accepted kept) (Reported m) (Refused r place) e f p q = let z : _≡_ {A = ℕ} 0 1 = cc in absurd (omega arith)
+one-answer (accepted kept) (Refused r) b e f p q = let z : _≡_ {A = ℕ} 0 1 = cc in absurd (omega arith)
+one-answer (accepted kept) (Reported m) (Refused r) e f p q = let z : _≡_ {A = ℕ} 0 1 = cc in absurd (omega arith)
 one-answer (refused t at) (Reported m) b e f p q = let z : _≡_ {A = ℕ} 0 1 = cc in absurd (omega arith)
-one-answer (refused t at) (Refused r place) (Reported n) e f p q = let z : _≡_ {A = ℕ} 0 1 = cc in absurd (omega arith)
-one-answer (refused t at) (Refused r place) (Refused s other) e f p q =
-    let number : numberOf r ≡ numberOf s = cc in
-    let there : place ≡ other = cc in
-    ap₂ Refused (one-refusal r s number) there
+one-answer (refused t at) (Refused r) (Reported n) e f p q = let z : _≡_ {A = ℕ} 0 1 = cc in absurd (omega arith)
+one-answer (refused t at) (Refused r) (Refused s) e f p q =
+    let number : numberOf (r .cause) ≡ numberOf (s .cause) = cc in
+    let there : r .place ≡ s .place = cc in
+    ap₂ (λ (c : Refusal) (n : ℕ). Refused (record { cause = c; place = n })) (one-refusal (r .cause) (s .cause) number) there
 
 pub record Same (a b : Assessed) (report report' ledger ledger' : List ℤ) : Type 0 where
   pub answers : a ≡ b
@@ -76,29 +64,3 @@ one-face p q = record {
   reports = p .report-is ∙ sym (q .report-is);
   ledgers = p .ledger-is ∙ sym (q .ledger-is);
 }
-
--- ---- the walk
-
-same-kept : {kept kept' : List Record} → _≡_ {A = Checked (List Record)} (accepted kept) (accepted kept') → kept ≡ kept'
-same-kept e = cc
-
--- where all records are kept, the masks and the arrays are those of the records
-pub one-end : {book : List ℕ} {m n : Masks} {a b : Arrays} → AllKept book m a → AllKept book n b → (m ≡ n) × (a ≡ b)
-one-end {m = m} {n = n} p q =
-    let same = same-kept (sym (p .walked) ∙ q .walked) in
-    let used-same : m .used ≡ n .used = one-mask (p .used-is) (rw same (q .used-is)) in
-    let curved-same : m .curved ≡ n .curved = one-mask (p .curved-is) (rw same (q .curved-is)) in
-    (ap₂ (λ (u : ℕ) (c : ℕ). record { used = u; curved = c }) used-same curved-same, p .arrays ∙ ap arraysOf same ∙ sym (q .arrays))
-
--- a refusal is one; what it leaves in the arrays is nobody's: `assess_records` clears the ledger, and the others are its own
-pub one-walk : {book : List ℕ} {a b : Arrays} (x y : Walked) → Walks book x a → Walks book y b → x ≡ y
-one-walk (All m) (All n) p q = ap All (one-end (p .all m refl) (q .all n refl) .0)
-one-walk (All m) (Stopped r place) p q =
-    let e = sym (p .all m refl .walked) ∙ q .stopped r place refl in let z : _≡_ {A = ℕ} 0 1 = cc in absurd (omega arith)
-one-walk (Stopped r place) (All m) p q =
-    let e = sym (q .all m refl .walked) ∙ p .stopped r place refl in let z : _≡_ {A = ℕ} 0 1 = cc in absurd (omega arith)
-one-walk (Stopped r place) (Stopped s other) p q =
-    let e : _≡_ {A = Checked (List Record)} (refused r place) (refused s other) = sym (p .stopped r place refl) ∙ q .stopped s other refl in
-    let cause : r ≡ s = cc in
-    let there : place ≡ other = cc in
-    ap₂ Stopped cause there

@@ -5,7 +5,7 @@ use mathlib.Core.Path.{_≡_}
 use lib.IntN.{ℤ}
 use lib.ListN.{set}
 use Rattle.paper.specs.Refusals.{Checked}
-use Rattle.paper.specs.Records.{Record}
+use Rattle.paper.specs.Records.{Record, currencies}
 use Rattle.paper.specs.Book.{reportAfter, ledgerAfter}
 use Rattle.book.specs.Assessed.{Answer, reported, turnedDown, answerOf}
 
@@ -25,5 +25,5 @@ withPlace told room = set room 0 told
 pub record Faced (o : Checked (List Record)) (T : ℕ) (report ledger : List ℤ) (place : List ℕ) (number : ℕ) (report' ledger' : List ℤ) (place' : List ℕ) : Type 0 where
   pub number-is : number ≡ numberIn (answerOf o)
   pub place-is : place' ≡ withPlace (placeIn (answerOf o)) place
-  pub report-is : report' ≡ reportAfter o T report
-  pub ledger-is : ledger' ≡ ledgerAfter o ledger
+  pub report-is : report' ≡ reportAfter currencies o T report
+  pub ledger-is : ledger' ≡ ledgerAfter currencies o ledger

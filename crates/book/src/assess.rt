@@ -2,35 +2,43 @@
 ghost use mathlib.Core.Path.{_≡_};
 ghost use Prim.Native.Nat.{_≤_};
 ghost use lib.ListN.{length};
+ghost use Rattle.paper.specs.Records.{currencies};
 ghost use Rattle.paper.specs.Ledger.{cells, figures};
 ghost use Rattle.paper.specs.TurnedDown.{badCapital, roomTooSmall};
-ghost use Rattle.book.specs.Assessed.{Answers, Assesses, Truthful, ofRecords};
-use crate::masks::lowest_missing;
+ghost use Rattle.load.specs.Load.{ofRecords};
+ghost use Rattle.book.specs.Assessed.{Answers, Assesses, Truthful, turnedAway};
 use crate::rooms::clear;
-use crate::walked::Walked;
-use crate::walked::walk;
 use factor::table;
+use load::Loaded;
+use load::load;
+use paper::CELLS;
+use paper::CHANGES;
+use paper::CURRENCIES;
+use paper::FIGURES;
+use paper::Fault;
+use paper::LONGEST_BOOK;
 use paper::Refusal;
+use paper::SCENARIOS;
 use valuation::fill_report;
 
-// The report was written, and these currencies have a curve, as a mask; or the book was turned down, with the cause and its place.
+// The report was written, and these currencies have a curve, as a mask; or the book was turned down for a cause at a place.
 pub enum Assessed {
     Reported(u32),
-    Refused(Refusal, usize),
+    Refused(Fault),
 }
 
-// The records in turn, then 15, then the report: the capital and the rooms are those that 16 and 18 ask for.
-pub fn assess_records(book: &[u8], tier1: u64, report: &mut [i64], ledger: &mut [i64]) -> Assessed
+// The records, then the report: the capital and the rooms are those that 16 and 18 ask for.
+fn assess_records(book: &[u8], tier1: u64, report: &mut [i64], ledger: &mut [i64]) -> Assessed
     requires { ⌜ tier1 ≤ 1_000_000_000_000 ⌝ }
-    requires { ⌜ (length (now report) ≡ figures) × (length (now ledger) ≡ cells) ⌝ }
+    requires { ⌜ (length (now report) ≡ figures currencies) × (length (now ledger) ≡ cells currencies) ⌝ }
     ensures { λ r. ⌜ Answers (ofRecords (now (book .entry))) tier1 (now (report .entry)) (now (ledger .entry)) r (now (report .exit)) (now (ledger .exit)) ⌝ }
 {
     clear(ledger);
-    let mut rates = [0i64; 1064];
-    let mut addons = [0i64; 48];
-    let mut sizes = [0u64; 56];
-    let mut options = [0u64; 48];
-    match walk(
+    let mut rates = [0i64; CELLS];
+    let mut addons = [0i64; CHANGES];
+    let mut sizes = [0u64; SCENARIOS * CURRENCIES];
+    let mut options = [0u64; CHANGES];
+    match load(
         book,
         ledger,
         &mut rates,
@@ -38,41 +46,35 @@ pub fn assess_records(book: &[u8], tier1: u64, report: &mut [i64], ledger: &mut 
         &mut sizes,
         &mut options,
     ) {
-        Walked::Refused(cause, place) => {
+        Loaded::Refused(fault) => {
             clear(ledger);
-            Assessed::Refused(cause, place)
+            Assessed::Refused(fault)
         }
-        Walked::All(masks) => {
-            let missing = lowest_missing(masks);
-            if missing <= 8 {
-                clear(ledger);
-                return Assessed::Refused(Refusal::NoCurve, missing as usize);
-            }
+        Loaded::Kept(curved) => {
             let factors = table();
-            fill_report(
-                ledger,
-                &rates,
-                &addons,
-                masks.curved,
-                tier1,
-                &factors,
-                report,
-            );
-            Assessed::Reported(masks.curved)
+            fill_report(ledger, &rates, &addons, curved, tier1, &factors, report);
+            Assessed::Reported(curved)
         }
     }
 }
 
-pub fn room_too_small(report: usize, ledger: usize) -> bool
-    ensures { λ r. ⌜ r ≡ roomTooSmall report ledger ⌝ }
+// 16 to 18 have no place in the book.
+fn refused(cause: Refusal) -> Assessed
+    ensures { λ r. ⌜ r ≡ turnedAway cause ⌝ }
 {
-    if report < 58 {
+    Assessed::Refused(Fault { cause, place: 0 })
+}
+
+fn room_too_small(report: usize, ledger: usize) -> bool
+    ensures { λ r. ⌜ r ≡ roomTooSmall currencies report ledger ⌝ }
+{
+    if report < FIGURES {
         return true;
     }
-    ledger < 1064
+    ledger < CELLS
 }
 
-pub fn bad_capital(tier1: u64) -> bool
+fn bad_capital(tier1: u64) -> bool
     ensures { λ r. ⌜ r ≡ badCapital tier1 ⌝ }
 {
     if tier1 < 1 {
@@ -86,13 +88,13 @@ pub fn assess(book: &[u8], tier1: u64, report: &mut [i64], ledger: &mut [i64]) -
     ensures { λ r. ⌜ Truthful (now (book .entry)) tier1 (now (report .entry)) (now (ledger .entry)) (now (report .exit)) ⌝ }
 {
     if room_too_small(report.len(), ledger.len()) {
-        return Assessed::Refused(Refusal::RoomTooSmall, 0);
+        return refused(Refusal::RoomTooSmall);
     }
-    if book.len() > 65528 {
-        return Assessed::Refused(Refusal::BookTooLong, 0);
+    if book.len() > LONGEST_BOOK {
+        return refused(Refusal::BookTooLong);
     }
     if bad_capital(tier1) {
-        return Assessed::Refused(Refusal::BadCapital, 0);
+        return refused(Refusal::BadCapital);
     }
-    assess_records(book, tier1, &mut report[0..58], &mut ledger[0..1064])
+    assess_records(book, tier1, &mut report[0..FIGURES], &mut ledger[0..CELLS])
 }

@@ -1,6 +1,7 @@
 // The face of `assess` for callers in other languages: numbers and slices only.
 ghost use mathlib.Core.Path.{_≡_};
 ghost use lib.ListN.{length};
+ghost use Rattle.paper.specs.Records.{currencies};
 ghost use Rattle.paper.specs.Book.{outcome};
 ghost use Rattle.paper.specs.Refusals.{numberOf};
 ghost use Rattle.book.specs.Face.{Faced, withPlace};
@@ -51,15 +52,16 @@ pub extern "C" fn vorlegan_assess(
     ledger: &mut [i64],
     place: &mut [u64],
 ) -> u32
-    ensures { λ r. ⌜ Faced (outcome (now (book .entry)) tier1 (length (now (report .entry))) (length (now (ledger .entry)))) tier1 (now (report .entry)) (now (ledger .entry)) (now (place .entry)) r (now (report .exit)) (now (ledger .exit)) (now (place .exit)) ⌝ }
+    ensures { λ r. ⌜ Faced (outcome currencies (now (book .entry)) tier1 (length (now (report .entry))) (length (now (ledger .entry)))) tier1 (now (report .entry)) (now (ledger .entry)) (now (place .entry)) r (now (report .exit)) (now (ledger .exit)) (now (place .exit)) ⌝ }
 {
     match assess(book, tier1, report, ledger) {
         Assessed::Reported(_) => {
             put_place(place, 0);
             0
         }
-        Assessed::Refused(cause, at) => {
-            put_place(place, at as u64);
+        Assessed::Refused(fault) => {
+            put_place(place, fault.place as u64);
+            let cause = fault.cause;
             refusal_number(cause)
         }
     }

@@ -4,14 +4,17 @@ ghost use Prim.Native.Nat.{_<_, _≤_};
 ghost use lib.IntN.{pos, natAbs, _*ℤ_};
 ghost use lib.ListN.{length, getD};
 ghost use Rattle.laws.specs.Tests.{first};
-ghost use Rattle.laws.specs.Nearest.{nearestℤ};
 ghost use Rattle.laws.specs.Lists.{tabulate};
 ghost use Rattle.paper.specs.Scales.{billion};
+ghost use Rattle.paper.specs.Ladder.{buckets};
+ghost use Rattle.paper.specs.Ledger.{sectionSize};
 ghost use Rattle.paper.specs.Curve.{rateChanges, shockedRate};
 ghost use Rattle.paper.specs.TurnedDown.{badShocked};
 ghost use Rattle.paper.specs.Sound.{Ranged, Listed};
 ghost use Rattle.curve.specs.Shocked.{shocksOf, curveOf, Sized, twisted, shortShares, shockedSection};
 use ladder::Millionths;
+use paper::BUCKETS;
+use paper::SCENARIOS;
 use signed::rounded;
 
 // Shock sizes, in basis points.
@@ -22,7 +25,7 @@ pub struct Shocks {
 }
 
 // s, in billionths, of each bucket.
-const SHORT_SHARES: [u32; 19] = [
+const SHORT_SHARES: [u32; BUCKETS] = [
     999300245,
     989629152,
     959181464,
@@ -44,7 +47,7 @@ const SHORT_SHARES: [u32; 19] = [
     1930454,
 ];
 
-fn short_shares() -> [u32; 19]
+fn short_shares() -> [u32; BUCKETS]
     ensures { λ r. ⌜ r ≡ shortShares ⌝ }
 {
     SHORT_SHARES
@@ -94,13 +97,13 @@ fn change(shocks: Shocks, share: u32, scenario: usize) -> Millionths
 fn shocked(
     rates: &[i64],
     shocks: Shocks,
-    shares: &[u32; 19],
+    shares: &[u32; BUCKETS],
     scenario: usize,
     k: usize,
 ) -> Millionths
-    requires { ⌜ Listed Ranged 19 (now rates) ⌝ }
+    requires { ⌜ Listed Ranged buckets (now rates) ⌝ }
     requires { ⌜ Sized shocks ⌝ }
-    requires { ⌜ (now shares ≡ shortShares) × (k < 19) ⌝ }
+    requires { ⌜ (now shares ≡ shortShares) × (k < buckets) ⌝ }
     ensures { λ r. ⌜ r .0 ≡ shockedRate (curveOf (now (rates .entry)) shocks) scenario k ⌝ }
 {
     let base = rates[k];
@@ -110,14 +113,14 @@ fn shocked(
 
 // The nineteen rates of one scenario.
 pub fn fill_scenario(rates: &[i64], shocks: Shocks, scenario: usize, part: &mut [i64])
-    requires { ⌜ Listed Ranged 19 (now rates) ⌝ }
+    requires { ⌜ Listed Ranged buckets (now rates) ⌝ }
     requires { ⌜ Sized shocks ⌝ }
-    requires { ⌜ length (now part) ≡ 19 ⌝ }
-    ensures { λ _. ⌜ now (part .exit) ≡ tabulate (shockedRate (curveOf (now (rates .entry)) shocks) scenario) 19 ⌝ }
+    requires { ⌜ length (now part) ≡ buckets ⌝ }
+    ensures { λ _. ⌜ now (part .exit) ≡ tabulate (shockedRate (curveOf (now (rates .entry)) shocks) scenario) buckets ⌝ }
 {
     let shares = short_shares();
     let mut k = 0;
-    while k < 19 {
+    while k < BUCKETS {
         let rate = shocked(rates, shocks, &shares, scenario, k);
         let cell = rate.0;
         part[k] = cell;
@@ -127,29 +130,29 @@ pub fn fill_scenario(rates: &[i64], shocks: Shocks, scenario: usize, part: &mut 
 
 // The seven scenarios, the base first: scenario i from cell 19 i on.
 pub fn fill_section(rates: &[i64], shocks: Shocks, section: &mut [i64])
-    requires { ⌜ Listed Ranged 19 (now rates) ⌝ }
+    requires { ⌜ Listed Ranged buckets (now rates) ⌝ }
     requires { ⌜ Sized shocks ⌝ }
-    requires { ⌜ length (now section) ≡ 133 ⌝ }
+    requires { ⌜ length (now section) ≡ sectionSize ⌝ }
     ensures { λ _. ⌜ now (section .exit) ≡ shockedSection (curveOf (now (rates .entry)) shocks) ⌝ }
 {
     let mut scenario = 0;
-    while scenario < 7 {
-        let start = 19 * scenario;
-        let end = start + 19;
+    while scenario < SCENARIOS {
+        let start = BUCKETS * scenario;
+        let end = start + BUCKETS;
         fill_scenario(rates, shocks, scenario, &mut section[start..end]);
         scenario += 1;
     }
 }
 
 // Some scenario's rate in bucket k + 1 is out of range.
-fn out_of_range(rates: &[i64], shocks: Shocks, shares: &[u32; 19], k: usize) -> bool
-    requires { ⌜ Listed Ranged 19 (now rates) ⌝ }
+fn out_of_range(rates: &[i64], shocks: Shocks, shares: &[u32; BUCKETS], k: usize) -> bool
+    requires { ⌜ Listed Ranged buckets (now rates) ⌝ }
     requires { ⌜ Sized shocks ⌝ }
-    requires { ⌜ (now shares ≡ shortShares) × (k < 19) ⌝ }
+    requires { ⌜ (now shares ≡ shortShares) × (k < buckets) ⌝ }
     ensures { λ r. ⌜ r ≡ badShocked (curveOf (now (rates .entry)) shocks) k ⌝ }
 {
     let mut scenario = 1;
-    while scenario < 7 {
+    while scenario < SCENARIOS {
         let rate = shocked(rates, shocks, shares, scenario, k);
         if rate.0 < -50_000 || 300_000 < rate.0 {
             return true;
@@ -159,19 +162,19 @@ fn out_of_range(rates: &[i64], shocks: Shocks, shares: &[u32; 19], k: usize) -> 
     false
 }
 
-// The first bucket, from 0, in which some scenario's rate is out of range; 19 where there is none.
+// The first bucket, from 0, in which some scenario's rate is out of range; BUCKETS where there is none.
 pub fn first_out_of_range(rates: &[i64], shocks: Shocks) -> usize
-    requires { ⌜ Listed Ranged 19 (now rates) ⌝ }
+    requires { ⌜ Listed Ranged buckets (now rates) ⌝ }
     requires { ⌜ Sized shocks ⌝ }
-    ensures { λ r. ⌜ r ≡ first (badShocked (curveOf (now (rates .entry)) shocks)) 0 19 ⌝ }
+    ensures { λ r. ⌜ r ≡ first (badShocked (curveOf (now (rates .entry)) shocks)) 0 buckets ⌝ }
 {
     let shares = short_shares();
     let mut k = 0;
-    while k < 19 {
+    while k < BUCKETS {
         if out_of_range(rates, shocks, &shares, k) {
             return k;
         }
         k += 1;
     }
-    19
+    BUCKETS
 }

@@ -1,27 +1,17 @@
--- How far midpoints and exponents reach.
-use Prim.Native.Nat.{ℕ, zero-le, _≤_}
-use mathlib.Core.Logic.{⊎-elim}
-use mathlib.Core.Path.{_≡_, refl, sym, ap, _∙_}
+-- How far exponents reach.
+use Prim.Native.Nat.{_≤_}
+use mathlib.Core.Path.{_≡_, sym, ap, _∙_}
 use native.Mathlib.Nat.{mul-le-mul}
 use native.Mathlib.Omega.{arith}
-use borrow.Author.Tests.{leb-true}
 use lib.IntN.{ℤ, pos, natAbs, _*ℤ_}
-use lib.ListN.{List·getD-eq-default}
-use Rattle.laws.specs.Tests.{_upTo_, all}
 use Rattle.laws.specs.Integers.{up, down}
-use Rattle.laws.proofs.Tests.{lt-or-ge, all-at}
 use Rattle.laws.proofs.Integers.{abs-is, mul-up, mul-down}
 use Rattle.laws.proofs.Order.{ints}
-use Rattle.paper.specs.Ladder.{midpoints, midpoint}
+use Rattle.paper.specs.Ladder.{midpoint}
 use Rattle.paper.specs.Change.{exponent}
 use Rattle.paper.specs.Sound.{Ranged}
+use Rattle.paper.proofs.Midpoints.{midpoint-most}
 use Rattle.ladder.specs.Reach.{OnLadder, IsExponent}
-
-pub midpoint-most : (k : ℕ) → midpoint k ≤ 250000
-unfolding midpoints all
-midpoint-most k =
-    ⊎-elim (λ h. leb-true _ _ (all-at (λ j. midpoint j upTo 250000) 0 19 refl k zero-le h))
-    (λ h. rw (List·getD-eq-default midpoints 0 {n = k} h) (omega arith)) (lt-or-ge k 19)
 
 module _ (rate years : ℤ) (ranged : Ranged rate) (on : OnLadder years) where
   above : up (rate *ℤ years) ≤ 75000000000

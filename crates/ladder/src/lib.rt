@@ -1,12 +1,13 @@
 // The three scales, and the time ladder (01, "Time ladder"; 001, table 3).
 ghost use mathlib.Core.Path.{_≡_};
-ghost use Prim.Native.Nat.{_+_, _<_, _≤_};
+ghost use Prim.Native.Nat.{_<_, _≤_};
 ghost use lib.IntN.{pos};
-ghost use Rattle.laws.specs.Tests.{if_then_else_};
-ghost use Rattle.paper.specs.Ladder.{notAfter, bucketOf, midpoints, midpoint};
+ghost use Rattle.paper.specs.Ladder.{buckets, bucketOf, midpoints};
 ghost use Rattle.paper.specs.Flow.{sided};
 ghost use Rattle.paper.specs.Sound.{Ranged};
+ghost use Rattle.ladder.specs.Ends.{byEnd};
 ghost use Rattle.ladder.specs.Reach.{OnLadder, IsExponent};
+use paper::BUCKETS;
 
 // Rates.
 pub struct Millionths(pub i64);
@@ -55,7 +56,7 @@ impl Exponent {
 }
 
 // Of buckets 1 to 19, in ten-thousandths of a year.
-const MIDPOINTS: [u32; 19] = [
+const MIDPOINTS: [u32; BUCKETS] = [
     28,
     417,
     1667,
@@ -78,24 +79,16 @@ const MIDPOINTS: [u32; 19] = [
 ];
 
 // For a loop over the buckets: taken once and lent, since a constant that is indexed by a variable is rebuilt at every use.
-pub fn midpoints() -> [u32; 19]
+pub fn midpoints() -> [u32; BUCKETS]
     ensures { λ r. ⌜ r ≡ midpoints ⌝ }
 {
     MIDPOINTS
 }
 
-// The midpoint of bucket k + 1.
-pub fn midpoint(k: usize) -> TenThousandthYears
-    requires { ⌜ k < 19 ⌝ }
-    ensures { λ r. ⌜ r .0 ≡ pos (midpoint k) ⌝ }
-{
-    TenThousandthYears::of(MIDPOINTS[k])
-}
-
 // In the months up to a bucket's end, which belongs to it: that bucket, or the next once the days are past the end's.
 fn by_end(months: u32, days: u32, bucket: usize, end: u32, day: u32) -> usize
-    requires { ⌜ (months ≤ end) × (bucket ≤ 18) ⌝ }
-    ensures { λ r. ⌜ r ≡ (if notAfter (record { months = months; days = days }) (record { months = end; days = day }) then bucket else bucket + 1) ⌝ }
+    requires { ⌜ (months ≤ end) × (bucket < buckets) ⌝ }
+    ensures { λ r. ⌜ r ≡ byEnd (record { months = months; days = days }) (record { months = end; days = day }) bucket ⌝ }
 {
     if months < end {
         return bucket;
@@ -105,7 +98,7 @@ fn by_end(months: u32, days: u32, bucket: usize, end: u32, day: u32) -> usize
 
 pub fn bucket_of(months: u32, days: u32) -> usize
     ensures { λ r. ⌜ r ≡ bucketOf (record { months = months; days = days }) ⌝ }
-    ensures { λ r. ⌜ (1 ≤ r) × (r ≤ 19) ⌝ }
+    ensures { λ r. ⌜ (1 ≤ r) × (r ≤ buckets) ⌝ }
 {
     match months {
         0..=1 => {
@@ -131,6 +124,6 @@ pub fn bucket_of(months: u32, days: u32) -> usize
         109..=120 => by_end(months, days, 16, 120, 0),
         121..=180 => by_end(months, days, 17, 180, 0),
         181..=240 => by_end(months, days, 18, 240, 0),
-        _ => 19,
+        _ => BUCKETS,
     }
 }

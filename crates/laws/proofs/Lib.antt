@@ -6,10 +6,12 @@ pub mod Integers
 pub mod Order
 -- the ring of integers
 pub mod Ring
--- what the code asks of integers at a width: fits, bits, tests, bounds
-pub mod Fits
+-- what the code asks of integers at a width: fits, bits, tests, bounds, magnitudes
+pub mod Widths
 -- sums over an index, and the greatest over one
 pub mod Sums
+-- the greatest of numbers, and the smallest index that reaches it, found by a scan
+pub mod Scan
 -- sums over a list
 pub mod Totals
 -- division to the nearest, and rounded up
@@ -23,7 +25,7 @@ pub mod Greatest
 -- the product of two sequences
 pub mod Sequences
 -- sequences of divided powers, by inequalities
-pub mod Divided
+pub mod DividedPowers
 -- the terms of the exponential's sum
 pub mod Terms
 -- the laws of the exponential's sum
@@ -33,9 +35,8 @@ pub mod Lists
 -- sections of lists, and lists with another section in place
 pub mod Sections
 -- a list with a number joined to each element
-pub mod Joined
--- a list filled from the front
-pub mod Fill
-pub mod Filled
+pub mod Joins
+-- a room that a loop fills from the front
+pub mod Filling
 -- the binary digits of masks
 pub mod Digits

@@ -1,10 +1,10 @@
 -- Lists given by a rule of the index: their length, their elements, when two are one, and a store into one.
 use Prim.Native.Nat.{ℕ, zero, suc, _+_, _≤_, _<_}
-use mathlib.Core.List.{List, _∷_, _++_}
+use mathlib.Core.List.{List, _∷_}
 use mathlib.Core.Logic.{_≢_}
 use mathlib.Core.Path.{_≡_, refl, sym, ap, ap₂, _∙_}
 use native.Mathlib.Decide.{ℕ-discrete}
-use native.Mathlib.Nat.{add-zero, zero-add, suc-add}
+use native.Mathlib.Nat.{add-zero, zero-add, add-comm}
 use native.Mathlib.Omega.{arith}
 use lib.ListN.{length, getD, set, replicate, length-set, List·getD-eq-default}
 use lib.Seq.{ext-getD, getD-set-same, getD-set-other}
@@ -40,13 +40,6 @@ module _ {A : Type 0} where
   tabulateFrom-ext f g a (suc n) h =
       ap₂ _∷_ (h a (omega arith) (omega arith)) (tabulateFrom-ext f g (suc a) n (λ k l m. h k (omega arith) (omega arith)))
 
-  pub tabulateFrom-append : (f : ℕ → A) (a m n : ℕ) → tabulateFrom f a (m + n) ≡ tabulateFrom f a m ++ tabulateFrom f (a + m) n
-  unfolding tabulateFrom
-  tabulateFrom-append f a zero n = rw (zero-add, add-zero)
-  tabulateFrom-append f a (suc m) n =
-      let e : suc a + m ≡ a + suc m = omega arith in
-      rw suc-add (ap (λ (l : List A). f a ∷ l) (rw e at (tabulateFrom-append f (suc a) m n)))
-
   pub tabulateFrom-const : (v : A) (a n : ℕ) → tabulateFrom (λ j. v) a n ≡ replicate n v
   unfolding tabulateFrom
   tabulateFrom-const v a zero = refl
@@ -71,6 +64,12 @@ module _ {A : Type 0} where
 
   pub tabulate-const : (v : A) (n : ℕ) → tabulate (λ j. v) n ≡ replicate n v
   tabulate-const v n = tabulateFrom-const v 0 n
+
+  -- counted from a on
+  pub tabulate-from : (f : ℕ → A) (a n : ℕ) → tabulate (λ j. f (j + a)) n ≡ tabulateFrom f a n
+  tabulate-from f a n =
+      tabulateFrom-is (f a) (tabulate (λ j. f (j + a)) n) f a n (tabulate-length (λ j. f (j + a)) n)
+      (λ k o. tabulate-at (λ j. f (j + a)) n k (f a) o ∙ ap f (add-comm k a))
 
   -- one place changed, by a store
   pub tabulate-set : (d : A) (f g : ℕ → A) (n k : ℕ) (v : A) → k < n → g k ≡ v → ((j : ℕ) → j ≢ k → f j ≡ g j)

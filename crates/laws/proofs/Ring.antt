@@ -1,7 +1,7 @@
 -- The ring of integers: the laws of the product that the library lacks, and equations regrouped.
 use Prim.Native.Nat.{ℕ, _*_}
 use mathlib.Core.Path.{_≡_, ap, _∙_}
-use lib.IntN.{ℤ, *ℤ-comm, negℤ, _+ℤ_, _-ℤ_, _*ℤ_}
+use lib.IntN.{ℤ, pos, *ℤ-comm, zero-*ℤ, +ℤ-idr, negℤ, _+ℤ_, _-ℤ_, _*ℤ_}
 use Rattle.laws.specs.Integers.{up, down}
 use Rattle.laws.proofs.Integers.{neg-up, neg-down, add-is, sub-is, mul-up, mul-down}
 use Rattle.laws.proofs.Order.{ints}
@@ -78,3 +78,10 @@ sub-through x y z = omega (ints, sub-is x z, sub-is x y, sub-is y z, add-is (x -
 -- a term moved to the other side
 pub move : (a b c : ℤ) → a +ℤ b ≡ c → a ≡ c -ℤ b
 move a b c h = omega (ints, add-is a b, sub-is c b)
+
+-- a product of three that is taken off, or is nothing
+pub add-neg-mul : (x a b c : ℤ) → x +ℤ negℤ a *ℤ b *ℤ c ≡ x -ℤ a *ℤ b *ℤ c
+add-neg-mul x a b c = ap (λ (y : ℤ). x +ℤ y) (ap (λ (y : ℤ). y *ℤ c) (neg-mul a b) ∙ neg-mul (a *ℤ b) c)
+
+pub add-zero-mul : (x b c : ℤ) → x +ℤ pos 0 *ℤ b *ℤ c ≡ x
+add-zero-mul x b c = rw (zero-*ℤ b, zero-*ℤ c) (+ℤ-idr x)

@@ -1,12 +1,12 @@
 -- A section of a list, and the list with another in its place, as the borrow checker leaves a part `&mut l[a..e]` at e - a = k.
 use Prim.Native.Nat.{ℕ, zero, suc, _+_, _≤_, _<_}
-use mathlib.Core.List.{List, [], _∷_, _++_, append-assoc}
+use mathlib.Core.List.{List, [], _∷_, _++_, append-assoc, append-nil}
 use mathlib.Core.Logic.{⊎-elim}
 use mathlib.Core.Path.{_≡_, refl, sym, ap, _∙_}
 use native.Mathlib.Omega.{arith}
 use borrow.Rule.Slice.PartMut.{set-mid-at, same-len-mid, put-same}
-use lib.ListN.{length, getD, set, take, drop, take-append-drop, length-take, length-drop, List·getD-append, List·getD-eq-default}
-use lib.Seq.{getD-take, getD-drop, take-take, take-add, drop-drop, getD-append-add, length-take-le}
+use lib.ListN.{length, getD, set, take, drop, take-append-drop, length-append, length-take, length-drop, drop-of-length-le, List·getD-append, List·getD-eq-default}
+use lib.Seq.{getD-take, getD-drop, take-take, take-add, drop-drop, getD-append-add, length-take-le, take-at, drop-at}
 use Rattle.laws.specs.Lists.{tabulateFrom, tabulate, section, splice}
 use Rattle.laws.proofs.Lists.{tabulate-length, tabulate-at, tabulateFrom-is}
 use Rattle.laws.proofs.Tests.{lt-or-ge}
@@ -19,6 +19,10 @@ module _ {A : Type 0} where
 
   pub section-at : (a k : ℕ) (l : List A) (j : ℕ) (d : A) → j < k → getD (section a k l) j d ≡ getD l (a + j) d
   section-at a k l j d h = getD-take k (drop a l) j d h ∙ getD-drop a l j d
+
+  -- an element at its place of the whole
+  pub section-place : (a k : ℕ) (l : List A) (j place : ℕ) (d : A) → j < k → place ≡ a + j → getD l place d ≡ getD (section a k l) j d
+  section-place a k l j place d h e = ap (λ (m : ℕ). getD l m d) e ∙ sym (section-at a k l j d h)
 
   -- what holds of every element, and of what stands past the end, holds of a section's
   pub section-all : (P : A → Type 0) (d : A) (l : List A) → P d → ((j : ℕ) → P (getD l j d)) → (a k j : ℕ) → P (getD (section a k l) j d)
@@ -101,3 +105,15 @@ module _ {A : Type 0} where
       ∙ getD-append-add part (drop k (drop a l)) j d
       ∙ getD-drop k (drop a l) j d
       ∙ getD-drop a l (k + j) d
+
+  -- ---- three sections of a room that follow one another and leave nothing of it
+
+  pub splice-three : (room xs ys zs : List A) (a b c : ℕ) → length room ≡ a + b + c → length xs ≡ a → length ys ≡ b
+      → splice (a + b) c (splice a b (xs ++ drop a room) ys) zs ≡ xs ++ ys ++ zs
+  splice-three room xs ys zs a b c r e f =
+      let rest = drop b (drop a room) in
+      let two : splice a b (xs ++ drop a room) ys ≡ (xs ++ ys) ++ rest =
+      rw (take-at xs (drop a room) a e, drop-at xs (drop a room) a e) (sym (append-assoc xs ys rest)) in
+      let long : length (xs ++ ys) ≡ a + b = omega (arith, length-append xs ys) in
+      let none : drop c rest ≡ [] = drop-of-length-le rest {i = c} (omega (arith, length-drop b (drop a room), length-drop a room)) in
+      rw (two, take-at (xs ++ ys) rest (a + b) long, drop-at (xs ++ ys) rest (a + b) long, none, append-nil zs)

@@ -8,7 +8,7 @@ use borrow.Author.Tests.{le-leb, lt-leb}
 use Rattle.laws.specs.Series.{cleared, exponentialTop, exponentialBottom}
 use Rattle.laws.specs.Sums.{sum}
 use Rattle.laws.specs.Tests.{if_then_else_, _upTo_}
-use Rattle.laws.proofs.Divided.{Step≤, Step≥, sums-above, sums-below}
+use Rattle.laws.proofs.DividedPowers.{Step≤, Step≥, sums-above, sums-below}
 use Rattle.laws.proofs.Sums.{sum-ext, sum-le, sum-upto, sum-only}
 use Rattle.laws.proofs.Terms.{factorial-pos, cleared-first, cleared-none, cleared-last, cleared-step, cleared-grows}
 use Rattle.laws.proofs.Tests.{lt-or-ge}

@@ -76,6 +76,11 @@ unfolding sum
 sum-le f g zero h = le-refl 0
 sum-le f g (suc n) h = omega (arith, sum-le f g n (λ k l. h k (omega arith)), h n (omega arith))
 
+pub sum-most : (f : ℕ → ℕ) (n b : ℕ) → ((k : ℕ) → k < n → f k ≤ b) → sum f n ≤ n * b
+unfolding sum
+sum-most f zero b h = omega arith
+sum-most f (suc n) b h = omega (arith, sum-most f n b (λ k l. h k (omega arith)), h n (omega arith))
+
 pub sum-mono : (f : ℕ → ℕ) (k d : ℕ) → sum f k ≤ sum f (k + d)
 sum-mono f k zero = rw add-zero (le-refl _)
 sum-mono f k (suc d) =

@@ -37,26 +37,27 @@ verdict-back Close = refl
 pub one-verdict : (v w : Verdict) → pos (verdictNumber v) ≡ pos (verdictNumber w) → v ≡ w
 one-verdict v w e = let n : verdictNumber v ≡ verdictNumber w = cc in sym (verdict-back v) ∙ ap verdictOf n ∙ verdict-back w
 
-module _ (t : Totals) (rates : Rated t) (T : ℕ) where
-  pub report-true : Demand3 t T (reportOf t T)
+module _ (top : ℕ) (t : Totals) (rates : Rated t) (T : ℕ) where
+  pub report-true : Demand3 top t T (reportOf top t T)
   unfolding reportOf verdictNumber
   report-true =
-      let u : ℕ = totalTolerance (tolerance t) in
-      let m : ℕ = measure (change t) in
-      let said = verdict-reported (change t) u T in
+      let u : ℕ = totalTolerance top (tolerance t) in
+      let m : ℕ = measure top (change t) in
+      let said = verdict-reported top (change t) u T in
       record {
-        changes = λ c i l h p n. rw (change-reported (change t) u T c i l h p n) (change-close t rates c i (omega arith));
-        sums = λ i p n. rw (sum-reported (change t) u T i p n) (sum-close t rates i (omega arith));
-        measure = rw (measure-reported (change t) u T) (measure-close t rates);
-        stated = tolerance-reported (change t) u T;
-        over = λ e. over-sound t rates T (one-verdict (verdict m u T) Over (sym said ∙ e));
-        within = λ e. within-sound t rates T (one-verdict (verdict m u T) WithinLine (sym said ∙ e));
-        close = rw (measure-reported (change t) u T, tolerance-reported (change t) u T) (
+        changes = λ c i l h p n. rw (change-reported top (change t) u T c i l h p n) (change-close t rates c i (omega arith));
+        sums = λ i p n. rw (sum-reported top (change t) u T i p n) (sum-close top t rates i (omega arith));
+        measure = rw (measure-reported top (change t) u T) (measure-close top t rates);
+        stated = tolerance-reported top (change t) u T;
+        over = λ e. over-sound top t rates T (one-verdict (verdict m u T) Over (sym said ∙ e));
+        within = λ e. within-sound top t rates T (one-verdict (verdict m u T) WithinLine (sym said ∙ e));
+        close = rw (measure-reported top (change t) u T, tolerance-reported top (change t) u T) (
           λ e. close-reaches m u T .0 (one-verdict (verdict m u T) Close (sym said ∙ e)),
           λ h. said ∙ ap (λ (v : Verdict). pos (verdictNumber v)) (close-reaches m u T .1 h),
         );
       }
 
-pub accepted-true : (book : List ℕ) (T reportRoom ledgerRoom : ℕ) (kept : List Record) → outcome book T reportRoom ledgerRoom ≡ accepted kept
-    → Demand3 (totals kept) T (reportOf (totals kept) T)
-accepted-true book T reportRoom ledgerRoom kept e = report-true (totals kept) (rated (known-of (outcome-good book T reportRoom ledgerRoom) kept e)) T
+pub accepted-true : (top : ℕ) (book : List ℕ) (T reportRoom ledgerRoom : ℕ) (kept : List Record) → outcome top book T reportRoom ledgerRoom ≡ accepted kept
+    → Demand3 top (totals kept) T (reportOf top (totals kept) T)
+accepted-true top book T reportRoom ledgerRoom kept e =
+    report-true top (totals kept) (rated (known-of (outcome-good top book T reportRoom ledgerRoom) kept e)) T

@@ -4,34 +4,29 @@ use mathlib.Core.Logic.{⊎-elim}
 use mathlib.Core.Path.{_≡_, refl}
 use native.Mathlib.Nat.{add-zero, add-mul, mul-le-mul, eq-zero-or-pos}
 use native.Mathlib.Omega.{arith}
-use borrow.Author.Tests.{leb-true, ne-eqb}
+use borrow.Author.Tests.{ne-eqb}
 use lib.Dec.{lit<}
 use lib.IntN.{ℤ, pos, negℤ, natAbs, _-ℤ_, _*ℤ_, zero-*ℤ}
-use Rattle.laws.specs.Tests.{_upTo_, all}
 use Rattle.laws.specs.Integers.{up, down}
 use Rattle.laws.specs.Sums.{sum, sumℤ}
 use Rattle.laws.specs.Nearest.{nearestℤ, roundedUp}
 use Rattle.laws.specs.Ratio.{Ratio, _-ℚ_, _/ℚ_, Within}
-use Rattle.laws.proofs.Tests.{all-at}
 use Rattle.laws.proofs.Integers.{zero-abs, mul-up, mul-down}
 use Rattle.laws.proofs.Order.{le-of}
 use Rattle.laws.proofs.Ratio.{within-add, within-sub, within-whole, within-over, within-nil, within-equal, sum-within}
 use Rattle.paper.specs.Scales.{billion}
-use Rattle.paper.specs.Ladder.{buckets, midpoints, midpoint}
+use Rattle.paper.specs.Ladder.{buckets, midpoint}
 use Rattle.paper.specs.Factor.{factor, InRange}
 use Rattle.paper.specs.Flow.{scenarios}
 use Rattle.paper.specs.Ledger.{Totals}
 use Rattle.paper.specs.Change.{exponent, value, change, netSize, toleranceOf, tolerance}
 use Rattle.paper.specs.Exact.{exactFactor, exactValue, exactChange}
+use Rattle.paper.proofs.Midpoints.{midpoint-most}
 use Rattle.paper.proofs.FactorClose.{factor-close}
 
 -- every exponent lies where a factor is close: so it is in an accepted book
 pub record Rated (t : Totals) : Type 0 where
   pub ranged : (c i k : ℕ) → i < scenarios → k < buckets → InRange (exponent (t .rate c i k) k)
-
-midpoint-most : (k : ℕ) → k < buckets → midpoint k ≤ 250000
-unfolding midpoints all
-midpoint-most k l = leb-true (midpoint k) 250000 (all-at (λ j. midpoint j upTo 250000) 0 buckets refl k (omega arith) l)
 
 -- so it is at a rate of -50,000 to 300,000
 pub exponent-ranged : (rate : ℤ) (k : ℕ) → k < buckets → down rate ≤ 50000 → up rate ≤ 300000 → InRange (exponent rate k)
@@ -41,8 +36,8 @@ exponent-ranged rate k l low high =
     let parts = mul-up rate (pos (midpoint k)) in
     let rest = mul-down rate (pos (midpoint k)) in
     record {
-      low = le-of (negℤ (pos 12500000000)) X (omega (arith, mul-le-mul low (midpoint-most k l)));
-      high = le-of X (pos 99999999999) (omega (arith, mul-le-mul high (midpoint-most k l)));
+      low = le-of (negℤ (pos 12500000000)) X (omega (arith, mul-le-mul low (midpoint-most k)));
+      high = le-of X (pos 99999999999) (omega (arith, mul-le-mul high (midpoint-most k)));
     }
 
 -- ---- a sum of flows times factors
@@ -59,7 +54,7 @@ unfolding sum sumℤ
 nil-sum f g zero e = refl
 nil-sum f g (suc n) e = rw (nil-sum f g n (omega arith), zero-abs (f n) (omega arith), zero-*ℤ (g n))
 
-nil-value : (t : Totals) (c i : ℕ) → netSize t c i ≡ 0 → value t c i ≡ pos 0
+pub nil-value : (t : Totals) (c i : ℕ) → netSize t c i ≡ 0 → value t c i ≡ pos 0
 unfolding value netSize
 nil-value t c i e = nil-sum (t .cell c i) (λ k. pos (factor (exponent (t .rate c i k) k))) buckets e
 

@@ -14,7 +14,7 @@ use Rattle.paper.specs.Ladder.{Term, midpoints}
 use Rattle.paper.specs.Refusals.{Checked, accepted, refused, _>>=_, _>>_, unless}
 use Rattle.paper.specs.Series.{under, seriesTerm, over}
 use Rattle.paper.specs.Curve.{Curve, Shocks, shortShare, rateChanges, shockedRate}
-use Rattle.paper.specs.Records.{Record, flows, single, coupons, floating, deposit, loan, termDeposit, option, curve}
+use Rattle.paper.specs.Records.{Record, flows, single, coupons, floating, deposit, loan, termDeposit, option, curve, currencies}
 use Rattle.paper.specs.Behaviour.{weighedCore, scheduledAt}
 use Rattle.paper.specs.TurnedDown.{badCurrency, badSide, badMonths, badDays, badPeriod, badCount, badAmount, badOption, badShare, badCategory, coreAboveCap, coreTooLong, interestAlone, secondCurve, badRate, badShock, badShocked, scheduleOver}
 use Rattle.paper.specs.Fields.{signed, field, each}
@@ -30,7 +30,7 @@ abbrev _means_ : Checked Record → Checked Record → Row
 body means is = record { body = body; is = is }
 
 abbrev freshly : ℕ → List ℕ → Checked Record
-freshly = decode (λ c. false)
+freshly = decode currencies (λ c. false)
 
 -- an amount at one bucket of a list of 19
 abbrev at : ℕ → ℕ → List ℕ
@@ -72,8 +72,8 @@ bodies =
     ∷ (freshly 7 (optionBody 8 2 (below4 1000000000)) means accepted (option 8 2 (pos 0 ∷ pos 0 ∷ pos 0 ∷ pos 0 ∷ pos 0 ∷ negsuc 999999999 ∷ [])))
     ∷ (freshly 7 (optionBody 8 2 (below4 2147483648)) means refused TooLarge 23)
     ∷ (freshly 7 (optionBody 8 2 (in4 1000000001)) means refused TooLarge 23)
-    ∷ (decode (λ c. true) 8 (curveBody 9 (below4 50001) 1001 0 0) means refused BadCurrency 1)
-    ∷ (decode (λ c. true) 8 (curveBody 8 (below4 50001) 1001 0 0) means refused SecondCurve 0)
+    ∷ (decode currencies (λ c. true) 8 (curveBody 9 (below4 50001) 1001 0 0) means refused BadCurrency 1)
+    ∷ (decode currencies (λ c. true) 8 (curveBody 8 (below4 50001) 1001 0 0) means refused SecondCurve 0)
     ∷ (freshly 8 (curveBody 8 (below4 50001) 1001 0 0) means refused OutOfRange 2)
     ∷ (freshly 8 (curveBody 8 (in4 300001) 1001 0 0) means refused OutOfRange 2)
     ∷ (freshly 8 (curveBody 8 (below4 50000) 1001 0 0) means refused OutOfRange 78)

@@ -14,7 +14,7 @@ use Rattle.paper.specs.Ladder.{Term, notAfter, upperEnds, bucketOf, midp
 use Rattle.paper.specs.Refusals.{Checked, accepted, numberOf, _>>=_, _>>_, unless}
 use Rattle.paper.specs.Series.{under, seriesTerm, over}
 use Rattle.paper.specs.Curve.{Curve, Shocks, shortShare, rateChanges, shockedRate}
-use Rattle.paper.specs.Records.{Record, flows, single, curve, kinds, bodyLength, currencyOf, isCurve}
+use Rattle.paper.specs.Records.{Record, flows, single, curve, kinds, bodyLength, currencyOf, isCurve, currencies}
 use Rattle.paper.specs.Flow.{sided, due, flowOf, flow, adds, gives, magnitude}
 use Rattle.paper.specs.Ledger.{ofCurrency, ofCurrencyℤ, totals, used, curved}
 use Rattle.paper.specs.TurnedDown.{unknownKind, cutShort, badCurrency, badSide, badMonths, badDays, badAmount, secondCurve, badRate, badShock, badShocked, flowsOver, optionsOver, overLimit, lacksCurve, badCapital, bookTooLong, roomTooSmall}
@@ -37,7 +37,7 @@ kept =
     ∷ []
 
 -- the whole walk; capital enters by its own range alone
-example-walked : walk example ≡ accepted kept
+example-walked : walk currencies example ≡ accepted kept
 unfolding example kept all first sum total totalℤ some nearest nearestℤ factorial notAfter upperEnds bucketOf midpoints _>>=_ _>>_ unless under seriesTerm over shortShare rateChanges shockedRate kinds bodyLength currencyOf isCurve sided due flowOf flow adds gives magnitude ofCurrency ofCurrencyℤ used curved unknownKind cutShort badCurrency badSide badMonths badDays badAmount secondCurve badRate badShock badShocked flowsOver optionsOver overLimit signed field each decodeSingle decodeCurve decode placed admitted recordAt nextAt walkFrom walk
 example-walked = refl
 
@@ -45,11 +45,11 @@ example-short : bookTooLong (length example) ≡ false
 unfolding example bookTooLong
 example-short = refl
 
-example-covered : covered kept ≡ accepted kept
+example-covered : covered currencies kept ≡ accepted kept
 unfolding kept covered first unless lacksCurve used curved some currencyOf isCurve
 example-covered = refl
 
-taken : (T : ℕ) → badCapital T ≡ false → outcome example T 58 1064 ≡ accepted kept
+taken : (T : ℕ) → badCapital T ≡ false → outcome currencies example T 58 1064 ≡ accepted kept
 unfolding outcome roomTooSmall unless _>>=_ _>>_
 taken T ok = rw (example-short, ok, example-walked, example-covered)
 
@@ -66,22 +66,22 @@ stated verdictIs =
     ++ (pos 632121 ∷ pos 0 ∷ pos 0 ∷ pos 0 ∷ pos 0 ∷ pos 0 ∷ [])
     ++ (pos 632121 ∷ pos 1 ∷ pos 2 ∷ pos verdictIs ∷ [])
 
-changes-are : changesOf (changeBy factorWritten (totals kept)) ≡ changes
+changes-are : changesOf currencies (changeBy factorWritten (totals kept)) ≡ changes
 unfolding changes kept sum sumℤ total totalℤ first nearest nearestℤ tabulateFrom factorial notAfter upperEnds bucketOf midpoints under seriesTerm over shortShare rateChanges shockedRate currencyOf sided due flowOf flow adds gives ofCurrency ofCurrencyℤ digit table written afterWritten factorWritten valueBy changeBy exponent changesOf
 changes-are = refl
 
-tolerance-is : totalTolerance (tolerance (totals kept)) ≡ 2
+tolerance-is : totalTolerance currencies (tolerance (totals kept)) ≡ 2
 unfolding kept sum totalℤ first greatest roundedUp notAfter upperEnds bucketOf currencyOf sided due flowOf flow ofCurrencyℤ netSize toleranceOf tolerance totalTolerance
 tolerance-is = refl
 
-report-is : (T : ℕ) → reportOf (totals kept) T ≡ stated (verdictNumber (verdict 632121 2 T))
+report-is : (T : ℕ) → reportOf currencies (totals kept) T ≡ stated (verdictNumber (verdict 632121 2 T))
 unfolding stated changes sum greatest first tabulateFrom scenarioSum measure worst listed reportFrom
-report-is T = report-written (totals kept) T ∙ ap₂ (λ (l : List ℤ) (u : ℕ). reportFrom l u T) changes-are tolerance-is
+report-is T = report-written currencies (totals kept) T ∙ ap₂ (λ (l : List ℤ) (u : ℕ). reportFrom currencies l u T) changes-are tolerance-is
 
 -- the book is accepted at T, and its report is as stated, with the verdict's number
 pub record Reports (T number : ℕ) : Type 0 where
-  pub accepts : outcome example T 58 1064 ≡ accepted kept
-  pub report : reportOf (totals kept) T ≡ stated number
+  pub accepts : outcome currencies example T 58 1064 ≡ accepted kept
+  pub report : reportOf currencies (totals kept) T ≡ stated number
 
 reports : (T : ℕ) → badCapital T ≡ false → Reports T (verdictNumber (verdict 632121 2 T))
 reports T ok = record { accepts = taken T ok; report = report-is T }

@@ -6,6 +6,7 @@ pub mod Decoded
 pub mod Outcomes
 -- ladder, behaviour, magnitudes, and what refusal 14 leaves
 pub mod Buckets
+pub mod Midpoints
 pub mod Loan
 pub mod Deposits
 pub mod Magnitudes
@@ -15,7 +16,7 @@ pub mod Numbers
 pub mod Known
 pub mod Ranges
 pub mod Sound
-pub mod KindOf
+pub mod KindLaws
 pub mod Walked
 -- demand 3: the series, the factor, a change, the measure, the verdict, each against the exact one
 pub mod Terms

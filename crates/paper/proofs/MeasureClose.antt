@@ -7,7 +7,6 @@ use Rattle.laws.specs.Ratio.{positive, Within}
 use Rattle.laws.proofs.Sums.{at-most}
 use Rattle.laws.proofs.Ratio.{within-sum-nat, within-wider}
 use Rattle.laws.proofs.Greatest.{within-positive, within-greatest}
-use Rattle.paper.specs.Records.{currencies}
 use Rattle.paper.specs.Flow.{scenarios}
 use Rattle.paper.specs.Ledger.{Totals}
 use Rattle.paper.specs.Change.{change, tolerance}
@@ -15,20 +14,20 @@ use Rattle.paper.specs.Verdict.{overCurrencies, scenarioSum, measure, to
 use Rattle.paper.specs.Exact.{exactChange, exactSum, exactMeasure}
 use Rattle.paper.proofs.ChangeClose.{Rated, change-close}
 
-module _ (t : Totals) (rated : Rated t) where
+module _ (top : ℕ) (t : Totals) (rated : Rated t) where
   -- a scenario's sum, within its tolerances added over currencies
-  pub sum-close : (i : ℕ) → i < scenarios → Within (overCurrencies (λ c. tolerance t c i)) (pos (scenarioSum (change t) i)) (exactSum t i)
+  pub sum-close : (i : ℕ) → i < scenarios → Within (overCurrencies top (λ c. tolerance t c i)) (pos (scenarioSum top (change t) i)) (exactSum top t i)
   unfolding scenarioSum exactSum
   sum-close i l =
-      within-sum-nat (λ c. tolerance t (suc c) i) (λ c. up (change t (suc c) i)) (λ c. positive (exactChange t (suc c) i)) currencies
+      within-sum-nat (λ c. tolerance t (suc c) i) (λ c. up (change t (suc c) i)) (λ c. positive (exactChange t (suc c) i)) top
       (λ c _. within-positive (change-close t rated (suc c) i l))
 
   -- the measure, within the total tolerance
-  pub measure-close : Within (totalTolerance (tolerance t)) (pos (measure (change t))) (exactMeasure t)
+  pub measure-close : Within (totalTolerance top (tolerance t)) (pos (measure top (change t))) (exactMeasure top t)
   unfolding totalTolerance measure exactMeasure
   measure-close =
-      within-greatest (totalTolerance (tolerance t)) (scenarioSum (change t)) (exactSum t) 6
-      (λ i p l. within-wider (at-most (λ j. overCurrencies (λ c. tolerance t c j)) 6 i p l) (sum-close i (omega arith)))
+      within-greatest (totalTolerance top (tolerance t)) (scenarioSum top (change t)) (exactSum top t) 6
+      (λ i p l. within-wider (at-most (λ j. overCurrencies top (λ c. tolerance t c j)) 6 i p l) (sum-close i (omega arith)))
 
-  pub measure-proper : 0 < exactMeasure t .den
+  pub measure-proper : 0 < exactMeasure top t .den
   measure-proper = measure-close .proper

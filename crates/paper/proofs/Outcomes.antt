@@ -11,7 +11,7 @@ use Rattle.paper.specs.Ladder.{notAfter, upperEnds, bucketOf, midpoints}
 use Rattle.paper.specs.Refusals.{Checked, accepted, refused, numberOf, _>>=_, _>>_, unless}
 use Rattle.paper.specs.Series.{under, seriesTerm, over}
 use Rattle.paper.specs.Curve.{shortShare, rateChanges, shockedRate}
-use Rattle.paper.specs.Records.{Record, kinds, bodyLength, currencyOf, isCurve}
+use Rattle.paper.specs.Records.{Record, kinds, bodyLength, currencyOf, isCurve, currencies}
 use Rattle.paper.specs.Behaviour.{prepaymentMultipliers, withdrawalMultipliers, behaviouralRate, weighedCore, depositFlow, paid, prepaid, interest, outstandingAt, scheduledAt, paidAt, prepaidAt, interestAt, loanFlow, moved, termDepositFlow}
 use Rattle.paper.specs.Flow.{sided, due, couponsDue, flowOf, flow, adds, magnitude}
 use Rattle.paper.specs.Ledger.{ofCurrency, used, curved}
@@ -36,11 +36,11 @@ pub record Row : Type 0 where
 
 -- with rooms and capital that do not matter
 unfoldable pub ends : List ℕ → ℕ → ℕ → Row
-ends book number place = record { gives = endingOf (outcome book 1 58 1064); stated = record { number = number; place = place } }
+ends book number place = record { gives = endingOf (outcome currencies book 1 58 1064); stated = record { number = number; place = place } }
 
 unfoldable pub roomed : List ℕ → ℕ → ℕ → ℕ → ℕ → ℕ → Row
 roomed book T reportRoom ledgerRoom number place =
-    record { gives = endingOf (outcome book T reportRoom ledgerRoom); stated = record { number = number; place = place } }
+    record { gives = endingOf (outcome currencies book T reportRoom ledgerRoom); stated = record { number = number; place = place } }
 
 abbrev curve : ℕ → List ℕ
 curve c = 8 ∷ curveBody c (in4 0) 400 0 0

@@ -13,7 +13,6 @@ use Rattle.laws.proofs.Tests.{and-true, or-true, or-false}
 use Rattle.laws.proofs.Integers.{side}
 use Rattle.laws.proofs.Order.{ltZ-false}
 use Rattle.paper.specs.Scales.{billion}
-use Rattle.paper.specs.Records.{currencies}
 use Rattle.paper.specs.TurnedDown.{badCurrency, badSide, badMonths, badDays, badPeriod, badCount, badAmount, badOption, badShare, badCategory, badRate, badShock}
 use Rattle.paper.specs.Sound.{Between, Counted, Small, Ranged}
 
@@ -25,9 +24,9 @@ between-tested low high x e =
 up-to-tested : (high x : ℕ) → (high below x) ≡ false → Between 0 high x
 up-to-tested high x e = record { from = omega arith; to = ltb-false high x e }
 
-pub currency-range : (c : ℕ) → badCurrency c ≡ false → Between 1 currencies c
+pub currency-range : (top c : ℕ) → badCurrency top c ≡ false → Between 1 top c
 unfolding badCurrency
-currency-range c e = between-tested 1 currencies c e
+currency-range top c e = between-tested 1 top c e
 
 pub side-range : (s : ℕ) → badSide s ≡ false → Between 1 2 s
 unfolding badSide

@@ -13,6 +13,7 @@ use Rattle.laws.specs.Series.{factorial}
 use Rattle.paper.specs.Ladder.{midpoints}
 use Rattle.paper.specs.Series.{under, seriesTerm, over}
 use Rattle.paper.specs.Curve.{Shocks, shortShare, rateChanges}
+use Rattle.paper.specs.Records.{currencies}
 use Rattle.paper.specs.Change.{toleranceOf}
 use Rattle.paper.specs.Verdict.{scenarioSum, measure, worst, verdict, verdictNumber}
 
@@ -37,11 +38,11 @@ pub record Row : Type 0 where
 unfoldable pub table : List Row
 table =
     record {
-      given = tabulateFrom (λ i. pos (scenarioSum (changes mixed) i)) 1 6;
+      given = tabulateFrom (λ i. pos (scenarioSum currencies (changes mixed) i)) 1 6;
       stated = pos 5 ∷ pos 10 ∷ pos 0 ∷ pos 10 ∷ pos 0 ∷ pos 1 ∷ [];
     }
-    ∷ record { given = pos (measure (changes mixed)) ∷ pos (worst (changes mixed)) ∷ []; stated = pos 10 ∷ pos 2 ∷ [] }
-    ∷ record { given = pos (measure (changes gains)) ∷ pos (worst (changes gains)) ∷ []; stated = pos 0 ∷ pos 0 ∷ [] }
+    ∷ record { given = pos (measure currencies (changes mixed)) ∷ pos (worst currencies (changes mixed)) ∷ []; stated = pos 10 ∷ pos 2 ∷ [] }
+    ∷ record { given = pos (measure currencies (changes gains)) ∷ pos (worst currencies (changes gains)) ∷ []; stated = pos 0 ∷ pos 0 ∷ [] }
     ∷ record {
       given = map (λ A. pos (toleranceOf A)) (0 ∷ 1 ∷ 38461538 ∷ 38461539 ∷ 2000000000 ∷ []);
       stated = pos 0 ∷ pos 2 ∷ pos 2 ∷ pos 3 ∷ pos 53 ∷ [];

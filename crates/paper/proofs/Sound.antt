@@ -62,21 +62,21 @@ shocked-ranged z base ok i k l m = ⊎-elim still moved (eq-zero-or-pos i)
 amounts-known : (body : List ℕ) (o : ℕ) → Known Amounts (each (amountAt body) buckets o)
 amounts-known body o = each-known (λ p. field-known amount-range _ _ _) buckets o
 
-module _ (curved : ℕ → Bool) (body : List ℕ) where
-  pub single-sound : Known (Sound curved) (decodeSingle body)
+module _ (top : ℕ) (curved : ℕ → Bool) (body : List ℕ) where
+  pub single-sound : Known (Sound top curved) (decodeSingle top body)
   unfolding decodeSingle Sound SoundFlows
   single-sound =
-      chain (field-known currency-range _ _ _) (λ c hc.
+      chain (field-known (currency-range top) _ _ _) (λ c hc.
       chain (field-known side-range _ _ _) (λ s hs.
       chain (field-known months-range _ _ _) (λ m hm.
       chain (field-known days-range _ _ _) (λ d hd.
       chain (field-known amount-range _ _ _) (λ a ha.
       known (hc, (hs, (hm, hd), ha)))))))
 
-  pub coupons-sound : Known (Sound curved) (decodeCoupons body)
+  pub coupons-sound : Known (Sound top curved) (decodeCoupons top body)
   unfolding decodeCoupons Sound SoundFlows
   coupons-sound =
-      chain (field-known currency-range _ _ _) (λ c hc.
+      chain (field-known (currency-range top) _ _ _) (λ c hc.
       chain (field-known side-range _ _ _) (λ s hs.
       chain (field-known period-range _ _ _) (λ p hp.
       chain (field-known (count-range p) _ _ _) (λ n hn.
@@ -84,10 +84,10 @@ module _ (curved : ℕ → Bool) (body : List ℕ) where
       chain (field-known amount-range _ _ _) (λ b hb.
       known (hc, (hs, hp, hn, ha, hb))))))))
 
-  pub floating-sound : Known (Sound curved) (decodeFloating body)
+  pub floating-sound : Known (Sound top curved) (decodeFloating top body)
   unfolding decodeFloating Sound SoundFlows
   floating-sound =
-      chain (field-known currency-range _ _ _) (λ c hc.
+      chain (field-known (currency-range top) _ _ _) (λ c hc.
       chain (field-known side-range _ _ _) (λ s hs.
       chain (field-known months-range _ _ _) (λ m hm.
       chain (field-known days-range _ _ _) (λ d hd.
@@ -95,10 +95,10 @@ module _ (curved : ℕ → Bool) (body : List ℕ) where
       chain (field-known amount-range _ _ _) (λ b hb.
       known (hc, (hs, (hm, hd), ha, hb))))))))
 
-  pub deposit-sound : Known (Sound curved) (decodeDeposit body)
+  pub deposit-sound : Known (Sound top curved) (decodeDeposit top body)
   unfolding decodeDeposit Sound SoundFlows
   deposit-sound =
-      chain (field-known currency-range _ _ _) (λ c hc.
+      chain (field-known (currency-range top) _ _ _) (λ c hc.
       chain (field-known category-range _ _ _) (λ g hg.
       chain (field-known amount-range _ _ _) (λ a ha.
       chain (amounts-known body 6) (λ core hs.
@@ -106,10 +106,10 @@ module _ (curved : ℕ → Bool) (body : List ℕ) where
       tested _ _ _ _ (λ f.
       known (hc, (hg, ha, hs, core-within g a core e))))))))
 
-  pub loan-sound : Known (Sound curved) (decodeLoan body)
+  pub loan-sound : Known (Sound top curved) (decodeLoan top body)
   unfolding decodeLoan Sound SoundFlows scheduleOver
   loan-sound =
-      chain (field-known currency-range _ _ _) (λ c hc.
+      chain (field-known (currency-range top) _ _ _) (λ c hc.
       chain (field-known share-range _ _ _) (λ s hs.
       chain (amounts-known body 3) (λ ps hp.
       chain (amounts-known body 79) (λ xs hx.
@@ -117,26 +117,26 @@ module _ (curved : ℕ → Bool) (body : List ℕ) where
       tested _ _ _ _ (λ f.
       known (hc, (hs, hp, hx, none-bad (interestAlone ps xs) e, ltb-false _ _ f))))))))
 
-  pub term-deposit-sound : Known (Sound curved) (decodeTermDeposit body)
+  pub term-deposit-sound : Known (Sound top curved) (decodeTermDeposit top body)
   unfolding decodeTermDeposit Sound SoundFlows
   term-deposit-sound =
-      chain (field-known currency-range _ _ _) (λ c hc.
+      chain (field-known (currency-range top) _ _ _) (λ c hc.
       chain (field-known share-range _ _ _) (λ s hs.
       chain (amounts-known body 3) (λ xs hx.
       known (hc, (hs, hx)))))
 
-  pub option-sound : Known (Sound curved) (decodeOption body)
+  pub option-sound : Known (Sound top curved) (decodeOption top body)
   unfolding decodeOption Sound
   option-sound =
-      chain (field-known currency-range _ _ _) (λ c hc.
+      chain (field-known (currency-range top) _ _ _) (λ c hc.
       chain (field-known side-range _ _ _) (λ s hs.
       chain (each-known (λ o. field-known option-range _ _ _) 6 2) (λ vs hv.
       known (hc, hs, hv))))
 
-  pub curve-sound : Known (Sound curved) (decodeCurve curved body)
+  pub curve-sound : Known (Sound top curved) (decodeCurve top curved body)
   unfolding decodeCurve Sound secondCurve
   curve-sound =
-      chain (field-known currency-range _ _ _) (λ c hc.
+      chain (field-known (currency-range top) _ _ _) (λ c hc.
       tested _ _ _ _ (λ e.
       chain (each-known (λ o. field-known rate-range _ _ _) buckets 1) (λ rs hr.
       chain (field-known shock-range _ _ _) (λ p hp.
@@ -145,15 +145,15 @@ module _ (curved : ℕ → Bool) (body : List ℕ) where
       tested _ _ _ _ (λ f.
       known (hc, record { fresh = e; base = hr; parallel = hp; short = hh; long = hg; shocked = shocked-ranged _ hr (none-bad _ f) }))))))))
 
-pub decode-sound : (curved : ℕ → Bool) (kind : ℕ) (body : List ℕ) → Known (Sound curved) (decode curved kind body)
+pub decode-sound : (top : ℕ) (curved : ℕ → Bool) (kind : ℕ) (body : List ℕ) → Known (Sound top curved) (decode top curved kind body)
 unfolding decode
-decode-sound curved kind body =
-    either (kind is 1) (single-sound curved body)
-    (either (kind is 2) (coupons-sound curved body)
-    (either (kind is 3) (floating-sound curved body)
-    (either (kind is 4) (deposit-sound curved body)
-    (either (kind is 5) (loan-sound curved body)
-    (either (kind is 6) (term-deposit-sound curved body)
-    (either (kind is 7) (option-sound curved body)
-    (either (kind is 8) (curve-sound curved body)
+decode-sound top curved kind body =
+    either (kind is 1) (single-sound top curved body)
+    (either (kind is 2) (coupons-sound top curved body)
+    (either (kind is 3) (floating-sound top curved body)
+    (either (kind is 4) (deposit-sound top curved body)
+    (either (kind is 5) (loan-sound top curved body)
+    (either (kind is 6) (term-deposit-sound top curved body)
+    (either (kind is 7) (option-sound top curved body)
+    (either (kind is 8) (curve-sound top curved body)
     gone)))))))

@@ -14,7 +14,7 @@ use Rattle.paper.specs.Ladder.{Term, notAfter, upperEnds, bucketOf, midp
 use Rattle.paper.specs.Refusals.{Checked, accepted, _>>=_, _>>_, unless}
 use Rattle.paper.specs.Series.{under, seriesTerm, over}
 use Rattle.paper.specs.Curve.{Curve, Shocks, shortShare, rateChanges, shockedRate}
-use Rattle.paper.specs.Records.{Record, flows, single, curve, kinds, bodyLength, currencyOf, isCurve}
+use Rattle.paper.specs.Records.{Record, flows, single, curve, kinds, bodyLength, currencyOf, isCurve, currencies}
 use Rattle.paper.specs.Flow.{sided, due, flowOf, flow, adds, gives, magnitude}
 use Rattle.paper.specs.Ledger.{ofCurrency, ofCurrencyℤ, totals, used, curved}
 use Rattle.paper.specs.TurnedDown.{unknownKind, cutShort, badCurrency, badSide, badMonths, badDays, badAmount, secondCurve, badRate, badShock, badShocked, flowsOver, optionsOver, overLimit, lacksCurve, badCapital, bookTooLong, roomTooSmall}
@@ -50,7 +50,7 @@ unfoldable pub stated : List ℤ
 stated =
     changes ++ (pos 632121 ∷ pos 1718282 ∷ pos 0 ∷ pos 0 ∷ pos 0 ∷ pos 0 ∷ []) ++ (pos 1718282 ∷ pos 2 ∷ pos 4 ∷ pos 1 ∷ [])
 
-walked : walk book ≡ accepted kept
+walked : walk currencies book ≡ accepted kept
 unfolding book kept rates all first sum total totalℤ some nearest nearestℤ factorial notAfter upperEnds bucketOf midpoints _>>=_ _>>_ unless under seriesTerm over shortShare rateChanges shockedRate kinds bodyLength currencyOf isCurve sided due flowOf flow adds gives magnitude ofCurrency ofCurrencyℤ used curved unknownKind cutShort badCurrency badSide badMonths badDays badAmount secondCurve badRate badShock badShocked flowsOver optionsOver overLimit signed field each decodeSingle decodeCurve decode placed admitted recordAt nextAt walkFrom walk
 walked = refl
 
@@ -58,22 +58,22 @@ short : bookTooLong (length book) ≡ false
 unfolding book rates bookTooLong
 short = refl
 
-covers : covered kept ≡ accepted kept
+covers : covered currencies kept ≡ accepted kept
 unfolding kept covered first unless lacksCurve used curved some currencyOf isCurve
 covers = refl
 
-pub taken : outcome book 1 58 1064 ≡ accepted kept
+pub taken : outcome currencies book 1 58 1064 ≡ accepted kept
 unfolding outcome roomTooSmall badCapital unless _>>=_ _>>_
 taken = rw (short, walked, covers)
 
-changes-are : changesOf (changeBy factorWritten (totals kept)) ≡ changes
+changes-are : changesOf currencies (changeBy factorWritten (totals kept)) ≡ changes
 unfolding changes kept sum sumℤ total totalℤ first nearest nearestℤ tabulateFrom factorial notAfter upperEnds bucketOf midpoints under seriesTerm over shortShare rateChanges shockedRate currencyOf sided due flowOf flow adds gives ofCurrency ofCurrencyℤ digit table written afterWritten factorWritten valueBy changeBy exponent changesOf
 changes-are = refl
 
-tolerance-is : totalTolerance (tolerance (totals kept)) ≡ 4
+tolerance-is : totalTolerance currencies (tolerance (totals kept)) ≡ 4
 unfolding kept sum totalℤ first greatest roundedUp notAfter upperEnds bucketOf currencyOf sided due flowOf flow ofCurrencyℤ netSize toleranceOf tolerance totalTolerance
 tolerance-is = refl
 
-pub report-is : reportOf (totals kept) 1 ≡ stated
+pub report-is : reportOf currencies (totals kept) 1 ≡ stated
 unfolding stated changes sum greatest first tabulateFrom scenarioSum measure worst verdict verdictNumber listed reportFrom
-report-is = report-written (totals kept) 1 ∙ ap₂ (λ (l : List ℤ) (u : ℕ). reportFrom l u 1) changes-are tolerance-is
+report-is = report-written currencies (totals kept) 1 ∙ ap₂ (λ (l : List ℤ) (u : ℕ). reportFrom currencies l u 1) changes-are tolerance-is

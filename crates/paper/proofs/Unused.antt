@@ -1,22 +1,37 @@
--- A currency that nothing uses reports zeros.
-use Prim.Native.Nat.{ℕ, zero, suc}
-use mathlib.Core.Bool.{Bool, true, false, not, _&&_, _||_}
+-- A currency in which there is nothing reports zeros, and so does one that nothing uses.
+use Prim.Native.Nat.{ℕ, _<_}
+use mathlib.Core.Bool.{Bool, true, false, not, _&&_}
 use mathlib.Core.List.{List, [], _∷_}
-use mathlib.Core.Path.{_≡_, refl, ap, _∙_}
+use mathlib.Core.Path.{_≡_, refl, ap}
 use native.Mathlib.Omega.{arith}
-use lib.IntN.{ℤ, pos, natAbs, _+ℤ_, _*ℤ_, zero-*ℤ}
+use lib.IntN.{ℤ, pos, natAbs, _+ℤ_}
 use borrow.Author.Tests.{not-false}
 use Rattle.laws.specs.Tests.{if_then_else_, _is_}
-use Rattle.laws.specs.Sums.{sum, sumℤ, totalℤ, some}
+use Rattle.laws.specs.Sums.{totalℤ, some}
 use Rattle.laws.specs.Nearest.{nearest, nearestℤ}
 use Rattle.laws.proofs.Tests.{or-false}
-use Rattle.laws.proofs.Sums.{sumℤ-ext, sum-none}
+use Rattle.laws.proofs.Sums.{sum-none}
 use Rattle.paper.specs.Ladder.{buckets}
 use Rattle.paper.specs.Records.{Record, flows, option, curve, currencyOf, isCurve}
 use Rattle.paper.specs.Flow.{flow, adds}
-use Rattle.paper.specs.Ledger.{ofCurrencyℤ, totals, used}
-use Rattle.paper.specs.Factor.{factor}
-use Rattle.paper.specs.Change.{exponent, value, change, netSize, toleranceOf, tolerance}
+use Rattle.paper.specs.Ledger.{Totals, ofCurrencyℤ, totals, used}
+use Rattle.paper.specs.Change.{change, netSize, toleranceOf, tolerance}
+use Rattle.paper.proofs.ChangeClose.{nil-value}
+
+-- where totals have nothing, there is no change and no tolerance: in a currency c, in the base and in the scenario i
+module _ (t : Totals) (c i : ℕ) where
+  nothing-size : ((k : ℕ) → k < buckets → t .cell c i k ≡ pos 0) → netSize t c i ≡ 0
+  unfolding netSize
+  nothing-size none = sum-none (λ k. natAbs (t .cell c i k)) buckets (λ k l. ap natAbs (none k l))
+
+module _ (t : Totals) (c i : ℕ) (base : (k : ℕ) → k < buckets → t .cell c 0 k ≡ pos 0) (flows : (k : ℕ) → k < buckets → t .cell c i k ≡ pos 0) where
+  pub nothing-change : t .addOn c i ≡ pos 0 → change t c i ≡ pos 0
+  unfolding change nearestℤ nearest
+  nothing-change none = rw (nil-value t c 0 (nothing-size t c 0 base), nil-value t c i (nothing-size t c i flows), none)
+
+  pub nothing-tolerance : tolerance t c i ≡ 0
+  unfolding tolerance toleranceOf
+  nothing-tolerance = rw (nothing-size t c 0 base, nothing-size t c i flows)
 
 -- what only positions add to is nil where the currency has none
 nil-unused : (f : Record → ℤ) → ((r : Record) → isCurve r ≡ true → f r ≡ pos 0) → (c : ℕ) (kept : List Record) → used kept c ≡ false → ofCurrencyℤ f c kept ≡ pos 0
@@ -52,22 +67,8 @@ module _ (kept : List Record) (c : ℕ) (idle : used kept c ≡ false) where
   pub unused-addOn : (i : ℕ) → totals kept .addOn c i ≡ pos 0
   unused-addOn i = nil-unused (λ r. adds r i) (curve-adds i) c kept idle
 
-  sum-nil : (n : ℕ) → sumℤ (λ k. pos 0) n ≡ pos 0
-  unfolding sumℤ
-  sum-nil zero = refl
-  sum-nil (suc n) = rw (sum-nil n)
-
-  unused-value : (i : ℕ) → value (totals kept) c i ≡ pos 0
-  unfolding value
-  unused-value i =
-      sumℤ-ext _ (λ k. pos 0) buckets (λ k _. let z = factor (exponent (totals kept .rate c i k) k) in rw (unused-cell i k) (zero-*ℤ (pos z))) ∙ sum-nil buckets
-
   pub unused-change : (i : ℕ) → change (totals kept) c i ≡ pos 0
-  unfolding change nearestℤ nearest
-  unused-change i = rw (unused-value 0, unused-value i, unused-addOn i)
+  unused-change i = nothing-change (totals kept) c i (λ k _. unused-cell 0 k) (λ k _. unused-cell i k) (unused-addOn i)
 
   pub unused-tolerance : (i : ℕ) → tolerance (totals kept) c i ≡ 0
-  unfolding tolerance toleranceOf netSize
-  unused-tolerance i =
-      let none : (j : ℕ) → sum (λ k. natAbs (totals kept .cell c j k)) buckets ≡ 0 = λ j. sum-none (λ k. natAbs (totals kept .cell c j k)) buckets (λ k _. ap natAbs (unused-cell j k)) in
-      rw (none 0, none i)
+  unused-tolerance i = nothing-tolerance (totals kept) c i (λ k _. unused-cell 0 k) (λ k _. unused-cell i k)

@@ -97,11 +97,11 @@ one-of-three m u T = by (verdict m u T)
 
 -- ---- the theorems: t stands for the totals of an accepted book, T for its Tier 1 capital
 
-module _ (t : Totals) (rated : Rated t) (T : ℕ) where
+module _ (top : ℕ) (t : Totals) (rated : Rated t) (T : ℕ) where
   -- over: 100 · exact measure > 15T
-  pub over-sound : verdict (measure (change t)) (totalTolerance (tolerance t)) T ≡ Over → whole (pos (15 * T)) <ℚ (pos 100 *ℚ exactMeasure t)
-  over-sound e = within-exceeds 100 (15 * T) (measure-close t rated) (above-is _ _ T (verdict-rule _ _ T .over .0 e))
+  pub over-sound : verdict (measure top (change t)) (totalTolerance top (tolerance t)) T ≡ Over → whole (pos (15 * T)) <ℚ (pos 100 *ℚ exactMeasure top t)
+  over-sound e = within-exceeds 100 (15 * T) (measure-close top t rated) (above-is _ _ T (verdict-rule _ _ T .over .0 e))
 
   -- within: 100 · exact measure ≤ 15T
-  pub within-sound : verdict (measure (change t)) (totalTolerance (tolerance t)) T ≡ Within → (pos 100 *ℚ exactMeasure t) ≤ℚ whole (pos (15 * T))
-  within-sound e = within-stays 100 (15 * T) (measure-close t rated) (up-to-is _ _ T (verdict-rule _ _ T .within .0 e))
+  pub within-sound : verdict (measure top (change t)) (totalTolerance top (tolerance t)) T ≡ Within → (pos 100 *ℚ exactMeasure top t) ≤ℚ whole (pos (15 * T))
+  within-sound e = within-stays 100 (15 * T) (measure-close top t rated) (up-to-is _ _ T (verdict-rule _ _ T .within .0 e))

@@ -50,12 +50,12 @@ same true z = +ℤ-idr z
 same false z = +ℤ-idr z
 
 module _ (kept : List Record) (g : Good kept) where
-  ranged-more : (r : Record) → Sound (curved kept) r → (c i k : ℕ) → i < 7 → k < buckets
+  ranged-more : (top : ℕ) (r : Record) → Sound top (curved kept) r → (c i k : ℕ) → i < 7 → k < buckets
       → Ranged (totals kept .rate c i k +ℤ (if currencyOf r is c then gives r i k else pos 0))
   unfolding gives Sound currencyOf
-  ranged-more (flows d f) s c i k l m = rw (same (d is c) (totals kept .rate c i k)) (g .ranged c i k l m)
-  ranged-more (option d side values) s c i k l m = rw (same (d is c) (totals kept .rate c i k)) (g .ranged c i k l m)
-  ranged-more (curve d z) s c i k l m = by (d is c) refl
+  ranged-more top (flows d f) s c i k l m = rw (same (d is c) (totals kept .rate c i k)) (g .ranged c i k l m)
+  ranged-more top (option d side values) s c i k l m = rw (same (d is c) (totals kept .rate c i k)) (g .ranged c i k l m)
+  ranged-more top (curve d z) s c i k l m = by (d is c) refl
     where
       by : (b : Bool) → (d is c) ≡ b → Ranged (totals kept .rate c i k +ℤ (if b then shockedRate z i k else pos 0))
       by true e =
@@ -74,39 +74,40 @@ module _ (kept : List Record) (g : Good kept) where
       by true u = let z : _≡_ {A = ℕ} 0 1 = cc in absurd (omega arith)
       by false u = +ℤ-idr (totals kept .rate c i k) ∙ g .bare c i k (or-false (curved kept c) (d is c && true) e .0)
 
-pub record Passed (kept : List Record) (r : Record) : Type 0 where
-  pub sound : Sound (curved kept) r
+pub record Passed (top : ℕ) (kept : List Record) (r : Record) : Type 0 where
+  pub sound : Sound top (curved kept) r
   pub room : overLimit (soFar kept) r ≡ false
 
-pub good-more : {kept : List Record} (r : Record) → Good kept → Passed kept r → Good (kept ++ (r ∷ []))
-good-more {kept} r g p = record {
+pub good-more : {top : ℕ} {kept : List Record} (r : Record) → Good kept → Passed top kept r → Good (kept ++ (r ∷ []))
+good-more {top} {kept} r g p = record {
   limited = limited-more r (g .limited) (p .room);
-  ranged = λ c i k l m. rw (ofCurrencyℤ-more c kept r (λ x. gives x i k)) (ranged-more kept g r (p .sound) c i k l m);
+  ranged = λ c i k l m. rw (ofCurrencyℤ-more c kept r (λ x. gives x i k)) (ranged-more kept g top r (p .sound) c i k l m);
   bare = λ c i k e. ofCurrencyℤ-more c kept r (λ x. gives x i k) ∙ bare-more kept g r c i k (sym (curved-more kept r c) ∙ e);
 }
 
 -- ---- the walk
 
-pub record-passed : (kept : List Record) (book : List ℕ) (at : ℕ) → Known (Passed kept) (recordAt (soFar kept) book at)
-unfolding recordAt admitted
-record-passed kept book at =
-    placed-known at
-    (tested _ _ _ _ (λ e.
-    tested _ _ _ _ (λ f.
-    chain (decode-sound (curved kept) (byte book at) (take (bodyLength (byte book at)) (drop (suc at) book))) (λ r s.
-    unless-known (Passed kept) (overLimit (soFar kept) r) _ _ r (λ t. record { sound = s; room = t })))))
+module _ (top : ℕ) where
+  pub record-passed : (kept : List Record) (book : List ℕ) (at : ℕ) → Known (Passed top kept) (recordAt top (soFar kept) book at)
+  unfolding recordAt admitted
+  record-passed kept book at =
+      placed-known at
+      (tested _ _ _ _ (λ e.
+      tested _ _ _ _ (λ f.
+      chain (decode-sound top (curved kept) (byte book at) (take (bodyLength (byte book at)) (drop (suc at) book))) (λ r s.
+      unless-known (Passed top kept) (overLimit (soFar kept) r) _ _ r (λ t. record { sound = s; room = t })))))
 
-pub walk-good : (fuel : ℕ) (book : List ℕ) (at : ℕ) (kept : List Record) → Good kept → Known Good (walkFrom fuel book at kept)
-unfolding walkFrom
-walk-good zero book at kept g = known g
-walk-good (suc fuel) book at kept g =
-    either (length book upTo at) (known g)
-    (chain (record-passed kept book at) (λ r p. walk-good fuel book (nextAt book at) (kept ++ (r ∷ [])) (good-more r g p)))
+  pub walk-good : (fuel : ℕ) (book : List ℕ) (at : ℕ) (kept : List Record) → Good kept → Known Good (walkFrom top fuel book at kept)
+  unfolding walkFrom
+  walk-good zero book at kept g = known g
+  walk-good (suc fuel) book at kept g =
+      either (length book upTo at) (known g)
+      (chain (record-passed kept book at) (λ r p. walk-good fuel book (nextAt book at) (kept ++ (r ∷ [])) (good-more r g p)))
 
-pub outcome-good : (book : List ℕ) (T reportRoom ledgerRoom : ℕ) → Known Good (outcome book T reportRoom ledgerRoom)
-unfolding outcome walk covered
-outcome-good book T reportRoom ledgerRoom =
-    tested _ _ _ _ (λ e.
-    tested _ _ _ _ (λ f.
-    tested _ _ _ _ (λ g.
-    chain (walk-good (length book) book 0 [] good-none) (λ kept h. unless-known Good _ _ _ kept (λ t. h)))))
+  pub outcome-good : (book : List ℕ) (T reportRoom ledgerRoom : ℕ) → Known Good (outcome top book T reportRoom ledgerRoom)
+  unfolding outcome walk covered
+  outcome-good book T reportRoom ledgerRoom =
+      tested _ _ _ _ (λ e.
+      tested _ _ _ _ (λ f.
+      tested _ _ _ _ (λ g.
+      chain (walk-good (length book) book 0 [] good-none) (λ kept h. unless-known Good _ _ _ kept (λ t. h)))))

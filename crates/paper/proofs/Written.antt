@@ -87,9 +87,10 @@ pub change-written : (t : Totals) → change t ≡ changeBy factorWritten t
 unfolding change changeBy value valueBy
 change-written t = ap (λ (by : ℤ → ℕ). changeBy by t) (fun-ext factor-written)
 
-pub changes-written : (t : Totals) → changesOf (change t) ≡ changesOf (changeBy factorWritten t)
-changes-written t = ap changesOf (change-written t)
+pub changes-written : (top : ℕ) (t : Totals) → changesOf top (change t) ≡ changesOf top (changeBy factorWritten t)
+changes-written top t = ap (changesOf top) (change-written t)
 
-pub report-written : (t : Totals) (T : ℕ) → reportOf t T ≡ reportFrom (changesOf (changeBy factorWritten t)) (totalTolerance (tolerance t)) T
+pub report-written : (top : ℕ) (t : Totals) (T : ℕ)
+    → reportOf top t T ≡ reportFrom top (changesOf top (changeBy factorWritten t)) (totalTolerance top (tolerance t)) T
 unfolding reportOf
-report-written t T = ap (λ (list : List ℤ). reportFrom list (totalTolerance (tolerance t)) T) (changes-written t)
+report-written top t T = ap (λ (list : List ℤ). reportFrom top list (totalTolerance top (tolerance t)) T) (changes-written top t)

@@ -8,7 +8,6 @@ use lib.IntN.{ℤ, pos, _+ℤ_, _-ℤ_, _*ℤ_}
 use lib.ListN.{getD}
 use lib.Signed.{_≤ℤ_, _<ℤ_}
 use Rattle.laws.specs.Ratio.{whole, _*ℚ_, _≤ℚ_, _<ℚ_, Within}
-use Rattle.paper.specs.Records.{currencies}
 use Rattle.paper.specs.Ledger.{Totals}
 use Rattle.paper.specs.Change.{tolerance}
 use Rattle.paper.specs.Verdict.{overCurrencies, totalTolerance, changeAt, sumAt, measureAt, toleranceAt, verdictAt}
@@ -18,17 +17,17 @@ abbrev pub figure : List ℤ → ℕ → ℤ
 figure report j = getD report j (pos 0)
 
 -- of a report on totals t, at Tier 1 capital T
-pub record Demand3 (t : Totals) (T : ℕ) (report : List ℤ) : Type 0 where
-  pub changes : (c i : ℕ) → 1 ≤ c → c ≤ currencies → 1 ≤ i → i ≤ 6
+pub record Demand3 (top : ℕ) (t : Totals) (T : ℕ) (report : List ℤ) : Type 0 where
+  pub changes : (c i : ℕ) → 1 ≤ c → c ≤ top → 1 ≤ i → i ≤ 6
       → Within (tolerance t c i) (figure report (changeAt c i)) (exactChange t c i)
-  pub sums : (i : ℕ) → 1 ≤ i → i ≤ 6 → Within (overCurrencies (λ c. tolerance t c i)) (figure report (sumAt i)) (exactSum t i)
-  pub measure : Within (totalTolerance (tolerance t)) (figure report measureAt) (exactMeasure t)
-  pub stated : figure report toleranceAt ≡ pos (totalTolerance (tolerance t))
+  pub sums : (i : ℕ) → 1 ≤ i → i ≤ 6 → Within (overCurrencies top (λ c. tolerance t c i)) (figure report (sumAt top i)) (exactSum top t i)
+  pub measure : Within (totalTolerance top (tolerance t)) (figure report (measureAt top)) (exactMeasure top t)
+  pub stated : figure report (toleranceAt top) ≡ pos (totalTolerance top (tolerance t))
   -- 1 over: 100 times the exact measure is above 15T
-  pub over : figure report verdictAt ≡ pos 1 → whole (pos (15 * T)) <ℚ (pos 100 *ℚ exactMeasure t)
+  pub over : figure report (verdictAt top) ≡ pos 1 → whole (pos (15 * T)) <ℚ (pos 100 *ℚ exactMeasure top t)
   -- 2 within: it is at most 15T
-  pub within : figure report verdictAt ≡ pos 2 → (pos 100 *ℚ exactMeasure t) ≤ℚ whole (pos (15 * T))
+  pub within : figure report (verdictAt top) ≡ pos 2 → (pos 100 *ℚ exactMeasure top t) ≤ℚ whole (pos (15 * T))
   -- 3 close: the tolerance reaches the line
-  pub close : figure report verdictAt ≡ pos 3
-      ↔ ((pos 100 *ℤ (figure report measureAt -ℤ figure report toleranceAt)) ≤ℤ (pos 15 *ℤ pos T))
-      × ((pos 15 *ℤ pos T) <ℤ (pos 100 *ℤ (figure report measureAt +ℤ figure report toleranceAt)))
+  pub close : figure report (verdictAt top) ≡ pos 3
+      ↔ ((pos 100 *ℤ (figure report (measureAt top) -ℤ figure report (toleranceAt top))) ≤ℤ (pos 15 *ℤ pos T))
+      × ((pos 15 *ℤ pos T) <ℤ (pos 100 *ℤ (figure report (measureAt top) +ℤ figure report (toleranceAt top))))

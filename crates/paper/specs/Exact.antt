@@ -6,7 +6,6 @@ use Rattle.laws.specs.Ratio.{Ratio, whole, _+ℚ_, _-ℚ_, _*ℚ_, _/ℚ_, posi
 use Rattle.paper.specs.Scales.{billion}
 use Rattle.paper.specs.Ladder.{buckets}
 use Rattle.paper.specs.Series.{over, under}
-use Rattle.paper.specs.Records.{currencies}
 use Rattle.paper.specs.Ledger.{Totals}
 use Rattle.paper.specs.Change.{exponent}
 
@@ -21,8 +20,8 @@ exactValue t c i = sumℚ (λ k. t .cell c i k *ℚ exactFactor (exponent (t .ra
 unfoldable pub exactChange : Totals → ℕ → ℕ → Ratio
 exactChange t c i = (exactValue t c 0 -ℚ exactValue t c i) /ℚ billion +ℚ whole (t .addOn c i)
 
-unfoldable pub exactSum : Totals → ℕ → Ratio
-exactSum t i = sumℚ (λ c. positive (exactChange t (suc c) i)) currencies
+unfoldable pub exactSum : ℕ → Totals → ℕ → Ratio
+exactSum top t i = sumℚ (λ c. positive (exactChange t (suc c) i)) top
 
-unfoldable pub exactMeasure : Totals → Ratio
-exactMeasure t = greatestℚ (exactSum t) 6
+unfoldable pub exactMeasure : ℕ → Totals → Ratio
+exactMeasure top t = greatestℚ (exactSum top t) 6

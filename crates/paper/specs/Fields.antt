@@ -29,8 +29,8 @@ signed n = if n below 2147483648 then pos n else pos n -ℤ pos 4294967296
 unfoldable pub field : {A : Type 0} → (A → Bool) → Refusal → ℕ → A → Checked A
 field bad r o x = unless (bad x) r (suc o) x
 
-abbrev pub currencyAt : List ℕ → ℕ → Checked ℕ
-currencyAt body o = field badCurrency BadCurrency o (byte body o)
+abbrev pub currencyAt : ℕ → List ℕ → ℕ → Checked ℕ
+currencyAt top body o = field (badCurrency top) BadCurrency o (byte body o)
 
 abbrev pub sideAt : List ℕ → ℕ → Checked ℕ
 sideAt body o = field badSide BadSide o (byte body o)

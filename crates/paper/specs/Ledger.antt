@@ -7,7 +7,7 @@ use Rattle.laws.specs.Tests.{if_then_else_, _is_}
 use Rattle.laws.specs.Sums.{total, totalℤ, some}
 use Rattle.laws.specs.Lists.{tabulate}
 use Rattle.paper.specs.Ladder.{buckets}
-use Rattle.paper.specs.Records.{Record, currencies, currencyOf, isCurve}
+use Rattle.paper.specs.Records.{Record, currencyOf, isCurve}
 use Rattle.paper.specs.Flow.{scenarios, flow, adds, gives, magnitude}
 
 -- over the records of the currency c
@@ -59,12 +59,12 @@ soFar kept = record {
 abbrev pub sectionSize : ℕ
 sectionSize = scenarios * buckets
 
-abbrev pub cells : ℕ
-cells = sectionSize * currencies
+abbrev pub cells : ℕ → ℕ
+cells top = sectionSize * top
 
-unfoldable pub ledgerOf : (ℕ → ℕ → ℕ → ℤ) → List ℤ
-ledgerOf cell = tabulate (λ j. cell (suc (j / sectionSize)) (j % sectionSize / buckets) (j % buckets)) cells
+unfoldable pub ledgerOf : ℕ → (ℕ → ℕ → ℕ → ℤ) → List ℤ
+ledgerOf top cell = tabulate (λ j. cell (suc (j / sectionSize)) (j % sectionSize / buckets) (j % buckets)) (cells top)
 
 -- the report's numbers: six changes for each currency, and ten more
-abbrev pub figures : ℕ
-figures = 6 * currencies + 10
+abbrev pub figures : ℕ → ℕ
+figures top = 6 * top + 10

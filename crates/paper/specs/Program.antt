@@ -8,7 +8,7 @@ use Rattle.laws.specs.Tests.{if_then_else_, _is_, _below_}
 use Rattle.laws.specs.Lists.{tabulateFrom}
 use Rattle.paper.specs.declared.Refusal.the-variants.{BadCapital, BookTooLong}
 use Rattle.paper.specs.Refusals.{numberOf, Checked, accepted, refused}
-use Rattle.paper.specs.Records.{Record, currencies}
+use Rattle.paper.specs.Records.{Record}
 use Rattle.paper.specs.Ledger.{totals, curved, cells, figures}
 use Rattle.paper.specs.Fields.{four}
 use Rattle.paper.specs.Verdict.{reportOf, changeAt, sumAt, measureAt, worstAt, toleranceAt, verdictAt}
@@ -19,11 +19,11 @@ use Rattle.paper.specs.Book.{outcome}
 abbrev pub capitalIn : List ℕ → ℕ
 capitalIn input = four input 0 * 4294967296 + four input 4
 
-unfoldable pub programOutcome : List ℕ → Checked (List Record)
-programOutcome input =
+unfoldable pub programOutcome : ℕ → List ℕ → Checked (List Record)
+programOutcome top input =
     if 65536 below length input then refused BookTooLong 0 else
     if length input below 8 then refused BadCapital 0 else
-    outcome (drop 8 input) (capitalIn input) figures cells
+    outcome top (drop 8 input) (capitalIn input) (figures top) (cells top)
 
 -- ---- what it prints: items after single spaces, a newline after every line
 
@@ -65,20 +65,20 @@ verdictWord (pos n) =
 verdictWord (negsuc n) = 67 ∷ 76 ∷ 79 ∷ 83 ∷ 69 ∷ []
 
 -- the C lines; S with six sums; M with measure, worst, total tolerance; V with the verdict
-unfoldable pub reportText : (ℕ → Bool) → List ℤ → List ℕ
-reportText curved report =
-    changesLines curved report currencies
-    ++ line 83 (tabulateFrom (λ i. getD report (sumAt i) (pos 0)) 1 6)
-    ++ line 77 (getD report measureAt (pos 0) ∷ getD report worstAt (pos 0) ∷ getD report toleranceAt (pos 0) ∷ [])
-    ++ (86 ∷ 32 ∷ verdictWord (getD report verdictAt (pos 0)) ++ (10 ∷ []))
+unfoldable pub reportText : ℕ → (ℕ → Bool) → List ℤ → List ℕ
+reportText top curved report =
+    changesLines curved report top
+    ++ line 83 (tabulateFrom (λ i. getD report (sumAt top i) (pos 0)) 1 6)
+    ++ line 77 (getD report (measureAt top) (pos 0) ∷ getD report (worstAt top) (pos 0) ∷ getD report (toleranceAt top) (pos 0) ∷ [])
+    ++ (86 ∷ 32 ∷ verdictWord (getD report (verdictAt top) (pos 0)) ++ (10 ∷ []))
 
 -- or one line, R with number and place
 unfoldable pub refusalText : ℕ → ℕ → List ℕ
 refusalText number place = line 82 (pos number ∷ pos place ∷ [])
 
-unfoldable pub textOf : Checked (List Record) → ℕ → List ℕ
-textOf (accepted kept) T = reportText (curved kept) (reportOf (totals kept) T)
-textOf (refused r place) T = refusalText (numberOf r) place
+unfoldable pub textOf : ℕ → Checked (List Record) → ℕ → List ℕ
+textOf top (accepted kept) T = reportText top (curved kept) (reportOf top (totals kept) T)
+textOf top (refused r place) T = refusalText (numberOf r) place
 
-unfoldable pub printed : List ℕ → List ℕ
-printed input = textOf (programOutcome input) (capitalIn input)
+unfoldable pub printed : ℕ → List ℕ → List ℕ
+printed top input = textOf top (programOutcome top input) (capitalIn input)

@@ -4,10 +4,11 @@ use mathlib.Core.Bool.{Bool, true, false}
 use mathlib.Core.List.{List, [], _∷_}
 use lib.IntN.{ℤ}
 use lib.ListN.{getD}
+use Rattle.laws.specs.Tests.{_is_}
 use Rattle.paper.specs.Ladder.{Term}
 use Rattle.paper.specs.Curve.{Curve}
 
--- currency is a byte 1 to this
+-- currency is a byte 1 to this. What depends on the number takes it as its first argument, `top` (currencies are 1 to top), and is used at this one
 abbrev pub currencies : ℕ
 currencies = 8
 
@@ -18,6 +19,10 @@ kinds = 9 ∷ 13 ∷ 13 ∷ 82 ∷ 155 ∷ 79 ∷ 26 ∷ 83 ∷ []
 -- 0 where there is no such kind
 unfoldable pub bodyLength : ℕ → ℕ
 bodyLength kind = getD (0 ∷ kinds) kind 0
+
+-- the kinds that are curves; all others are positions
+unfoldable pub curveKind : ℕ → Bool
+curveKind kind = kind is 8
 
 -- kinds 1 to 6: what has flows. Lists of amounts are by bucket
 pub data Flows : Type 0 where

@@ -10,7 +10,7 @@ use Rattle.laws.specs.Sums.{sumOf}
 use Rattle.paper.specs.Scales.{billion}
 use Rattle.paper.specs.Ladder.{buckets, Term}
 use Rattle.paper.specs.Curve.{Curve, shockedRate}
-use Rattle.paper.specs.Records.{Flows, single, coupons, floating, deposit, loan, termDeposit, Record, flows, option, curve, currencies}
+use Rattle.paper.specs.Records.{Flows, single, coupons, floating, deposit, loan, termDeposit, Record, flows, option, curve}
 use Rattle.paper.specs.TurnedDown.{interestAlone}
 
 -- ---- fields
@@ -65,7 +65,7 @@ pub record SoundCurve (curved : ℕ → Bool) (c : ℕ) (z : Curve) : Type 0 whe
   pub long : Between 0 1000 (z .shocks .long)
   pub shocked : (i k : ℕ) → i < 7 → k < buckets → Ranged (shockedRate z i k)
 
-unfoldable pub Sound : (ℕ → Bool) → Record → Type 0
-Sound curved (flows c f) = Between 1 currencies c × SoundFlows f
-Sound curved (option c side values) = Between 1 currencies c × Between 1 2 side × Listed Small 6 values
-Sound curved (curve c z) = Between 1 currencies c × SoundCurve curved c z
+unfoldable pub Sound : ℕ → (ℕ → Bool) → Record → Type 0
+Sound top curved (flows c f) = Between 1 top c × SoundFlows f
+Sound top curved (option c side values) = Between 1 top c × Between 1 2 side × Listed Small 6 values
+Sound top curved (curve c z) = Between 1 top c × SoundCurve curved c z

@@ -9,7 +9,7 @@ use Rattle.laws.specs.Tests.{_is_, _upTo_, _below_, all}
 use Rattle.laws.specs.Sums.{sumOf}
 use Rattle.paper.specs.Scales.{billion}
 use Rattle.paper.specs.Curve.{Curve, shockedRate}
-use Rattle.paper.specs.Records.{Record, currencies, currencyOf, bodyLength}
+use Rattle.paper.specs.Records.{Record, currencyOf, bodyLength}
 use Rattle.paper.specs.Behaviour.{coreCap, averageCap, weighedCore, scheduledAt}
 use Rattle.paper.specs.Flow.{adds, magnitude}
 use Rattle.paper.specs.Ledger.{SoFar, used, curved, cells, figures}
@@ -23,8 +23,8 @@ unfoldable pub cutShort : ℕ → ℕ → ℕ → Bool
 cutShort kind at bytes = bytes below suc at + bodyLength kind
 
 -- 3: bad currency
-unfoldable pub badCurrency : ℕ → Bool
-badCurrency c = not (1 upTo c && c upTo currencies)
+unfoldable pub badCurrency : ℕ → ℕ → Bool
+badCurrency top c = not (1 upTo c && c upTo top)
 
 -- 4: bad side
 unfoldable pub badSide : ℕ → Bool
@@ -115,5 +115,5 @@ unfoldable pub bookTooLong : ℕ → Bool
 bookTooLong bytes = longestBook below bytes
 
 -- 18: report room below 58 or ledger room below 1,064
-unfoldable pub roomTooSmall : ℕ → ℕ → Bool
-roomTooSmall reportRoom ledgerRoom = reportRoom below figures || ledgerRoom below cells
+unfoldable pub roomTooSmall : ℕ → ℕ → ℕ → Bool
+roomTooSmall top reportRoom ledgerRoom = reportRoom below figures top || ledgerRoom below cells top

@@ -10,29 +10,29 @@ use Rattle.laws.specs.Sums.{sum, greatest}
 use Rattle.laws.specs.Lists.{tabulate, tabulateFrom}
 use Rattle.paper.specs.declared.Verdict.{Verdict}
 use Rattle.paper.specs.declared.Verdict.the-variants.{Over, Within, Close}
-use Rattle.paper.specs.Records.{currencies}
 use Rattle.paper.specs.Ledger.{Totals}
 use Rattle.paper.specs.Change.{change, tolerance}
 
--- over currencies, the first to the last
-abbrev pub overCurrencies : (ℕ → ℕ) → ℕ
-overCurrencies f = sum (λ c. f (suc c)) currencies
+module _ (top : ℕ) where
+  -- over currencies, the first to the last
+  abbrev pub overCurrencies : (ℕ → ℕ) → ℕ
+  overCurrencies f = sum (λ c. f (suc c)) top
 
--- a scenario's sum adds the positive changes over currencies
-unfoldable pub scenarioSum : (ℕ → ℕ → ℤ) → ℕ → ℕ
-scenarioSum changes i = overCurrencies (λ c. up (changes c i))
+  -- a scenario's sum adds the positive changes over currencies
+  unfoldable pub scenarioSum : (ℕ → ℕ → ℤ) → ℕ → ℕ
+  scenarioSum changes i = overCurrencies (λ c. up (changes c i))
 
--- the greatest of the six
-unfoldable pub measure : (ℕ → ℕ → ℤ) → ℕ
-measure changes = greatest (scenarioSum changes) 6
+  -- the greatest of the six
+  unfoldable pub measure : (ℕ → ℕ → ℤ) → ℕ
+  measure changes = greatest (scenarioSum changes) 6
 
--- the smallest scenario number that reaches it, 0 if the measure is 0
-unfoldable pub worst : (ℕ → ℕ → ℤ) → ℕ
-worst changes = if measure changes is 0 then 0 else first (λ i. scenarioSum changes i is measure changes) 1 6
+  -- the smallest scenario number that reaches it, 0 if the measure is 0
+  unfoldable pub worst : (ℕ → ℕ → ℤ) → ℕ
+  worst changes = if measure changes is 0 then 0 else first (λ i. scenarioSum changes i is measure changes) 1 6
 
--- the greatest over scenarios of the tolerances added over currencies
-unfoldable pub totalTolerance : (ℕ → ℕ → ℕ) → ℕ
-totalTolerance tolerances = greatest (λ i. overCurrencies (λ c. tolerances c i)) 6
+  -- the greatest over scenarios of the tolerances added over currencies
+  unfoldable pub totalTolerance : (ℕ → ℕ → ℕ) → ℕ
+  totalTolerance tolerances = greatest (λ i. overCurrencies (λ c. tolerances c i)) 6
 
 -- against Tier 1 capital T, with the measure m and the total tolerance u: over if 100(m - u) > 15T, within if 100(m + u) <= 15T
 unfoldable pub verdict : ℕ → ℕ → ℕ → Verdict
@@ -48,8 +48,8 @@ verdictNumber Close = 3
 
 -- ---- the report: the changes, currency by currency, 6 sums, measure, worst, total tolerance, verdict
 
-unfoldable pub changesOf : (ℕ → ℕ → ℤ) → List ℤ
-changesOf changes = tabulate (λ j. changes (suc (j / 6)) (suc (j % 6))) (6 * currencies)
+unfoldable pub changesOf : ℕ → (ℕ → ℕ → ℤ) → List ℤ
+changesOf top changes = tabulate (λ j. changes (suc (j / 6)) (suc (j % 6))) (6 * top)
 
 abbrev pub changeAt : ℕ → ℕ → ℕ
 changeAt c i = 6 * (c - 1) + (i - 1)
@@ -58,28 +58,28 @@ changeAt c i = 6 * (c - 1) + (i - 1)
 unfoldable pub listed : List ℤ → ℕ → ℕ → ℤ
 listed list c i = getD list (changeAt c i) (pos 0)
 
-unfoldable pub reportFrom : List ℤ → ℕ → ℕ → List ℤ
-reportFrom list u T =
+unfoldable pub reportFrom : ℕ → List ℤ → ℕ → ℕ → List ℤ
+reportFrom top list u T =
     let changes = listed list in
     list
-    ++ tabulateFrom (λ i. pos (scenarioSum changes i)) 1 6
-    ++ (pos (measure changes) ∷ pos (worst changes) ∷ pos u ∷ pos (verdictNumber (verdict (measure changes) u T)) ∷ [])
+    ++ tabulateFrom (λ i. pos (scenarioSum top changes i)) 1 6
+    ++ (pos (measure top changes) ∷ pos (worst top changes) ∷ pos u ∷ pos (verdictNumber (verdict (measure top changes) u T)) ∷ [])
 
-unfoldable pub reportOf : Totals → ℕ → List ℤ
-reportOf t T = reportFrom (changesOf (change t)) (totalTolerance (tolerance t)) T
+unfoldable pub reportOf : ℕ → Totals → ℕ → List ℤ
+reportOf top t T = reportFrom top (changesOf top (change t)) (totalTolerance top (tolerance t)) T
 
 -- where each number stands in it
-abbrev pub sumAt : ℕ → ℕ
-sumAt i = 6 * currencies + (i - 1)
+abbrev pub sumAt : ℕ → ℕ → ℕ
+sumAt top i = 6 * top + (i - 1)
 
-abbrev pub measureAt : ℕ
-measureAt = 6 * currencies + 6
+abbrev pub measureAt : ℕ → ℕ
+measureAt top = 6 * top + 6
 
-abbrev pub worstAt : ℕ
-worstAt = 6 * currencies + 7
+abbrev pub worstAt : ℕ → ℕ
+worstAt top = 6 * top + 7
 
-abbrev pub toleranceAt : ℕ
-toleranceAt = 6 * currencies + 8
+abbrev pub toleranceAt : ℕ → ℕ
+toleranceAt top = 6 * top + 8
 
-abbrev pub verdictAt : ℕ
-verdictAt = 6 * currencies + 9
+abbrev pub verdictAt : ℕ → ℕ
+verdictAt top = 6 * top + 9

@@ -33,7 +33,7 @@ pub const LONGEST_BOOK: usize = 65528;
 
 // The constants are the paper's numbers.
 fn sizes() -> [usize; 8]
-    ensures { λ r. ⌜ r ≡ currencies ∷ buckets ∷ scenarios ∷ shocked ∷ sectionSize ∷ cells ∷ figures ∷ longestBook ∷ [] ⌝ }
+    ensures { λ r. ⌜ r ≡ currencies ∷ buckets ∷ scenarios ∷ shocked ∷ sectionSize ∷ cells currencies ∷ figures currencies ∷ longestBook ∷ [] ⌝ }
 {
     [
         CURRENCIES,

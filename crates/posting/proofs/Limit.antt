@@ -8,7 +8,7 @@ use lib.IntN.{ℤ, pos}
 use lib.ListN.{length, getD, replicate, getD-replicate}
 use borrow.Author.Tests.{lt-ltb, le-ltb, ltb-false, not-true}
 use Rattle.laws.specs.Tests.{_below_}
-use Rattle.laws.proofs.Joined.{joined-ext}
+use Rattle.laws.proofs.Joins.{joined-ext}
 use Rattle.laws.proofs.Tests.{all-at, all-of, all-not, all-ext}
 use Rattle.paper.specs.Scales.{billion}
 use Rattle.paper.specs.Flow.{scenarios, sided}

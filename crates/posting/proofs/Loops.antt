@@ -14,8 +14,8 @@ use Rattle.laws.specs.Lists.{tabulate, joined, section, splice}
 use Rattle.laws.proofs.Tests.{lt-or-ge}
 use Rattle.laws.proofs.Lists.{tabulate-at, tabulate-past, tabulate-is}
 use Rattle.laws.proofs.Sections.{length-section, section-at, length-splice, splice-before, splice-in, splice-after}
-use Rattle.laws.proofs.Filled.{Filled}
-use Rattle.laws.proofs.Joined.{joined-length, joined-at, joined-is, joined-ext}
+use Rattle.laws.proofs.Filling.{Filled}
+use Rattle.laws.proofs.Joins.{joined-length, joined-at, joined-is, joined-ext}
 
 module _ {A : Type 0} (d : A) where
   -- ---- one value throughout: what holds of it, and of what stands past the end, holds at every index

@@ -9,7 +9,7 @@ use mir.Val.{SFits}
 use borrow.Author.Tests.{eq-eqb, ne-eqb}
 use Rattle.laws.specs.Tests.{if_then_else_, _is_}
 use Rattle.laws.proofs.Integers.{zero-sub, abs-add, abs-sub}
-use Rattle.laws.proofs.Fits.{sfits-abs}
+use Rattle.laws.proofs.Widths.{sfits-abs}
 use Rattle.paper.specs.Ladder.{buckets}
 use Rattle.paper.specs.Flow.{sided}
 use Rattle.posting.specs.Parts.{column, trillion}

@@ -6,13 +6,14 @@ use mathlib.Core.Path.{_≡_}
 use lib.IntN.{ℤ, pos, natAbs}
 use lib.ListN.{length, getD}
 use Rattle.laws.specs.Tests.{if_then_else_, _is_}
+use Rattle.paper.specs.declared.Refusal.the-variants.{OverLimit}
 use Rattle.paper.specs.Scales.{billion}
 use Rattle.paper.specs.Ladder.{buckets}
 use Rattle.paper.specs.Flow.{scenarios, sided}
 use Rattle.paper.specs.Ledger.{sectionSize}
 use Rattle.arrays.specs.Slots.{plus, plusℤ, roomFor, onlyIf}
-use Rattle.posting.specs.declared.Slotted.{Slotted}
-use Rattle.posting.specs.declared.Slotted.the-variants.{Done, OverLimit}
+use Rattle.posting.specs.declared.Taken.{Taken}
+use Rattle.posting.specs.declared.Taken.the-variants.{Done, Refused}
 
 -- every number of the list is at most b; past its end stands 0
 abbrev pub AtMost : ℕ → List ℕ → Type 0
@@ -32,8 +33,9 @@ pub record FlowParts (section : List ℤ) (sizes : List ℕ) : Type 0 where
   pub cells-small : AtMostℤ billion section
   pub sizes-small : AtMost billion sizes
 
-abbrev pub answerOf : Bool → Slotted
-answerOf room = if room then Done else OverLimit
+-- by 14 alone
+abbrev pub answerOf : Bool → Taken
+answerOf room = if room then Done else Refused (record { cause = OverLimit; place = 0 })
 
 -- sums with more added, if none of them passes the limit
 pub record Admitted (more sums : List ℕ) (answer : Bool) (sums' : List ℕ) : Type 0 where
@@ -45,7 +47,7 @@ unfoldable pub column : ℕ → ℤ → ℕ → ℤ
 column bucket amount j = if bucket is suc (j % buckets) then amount else pos 0
 
 -- flows by the place in a section, all of one side, and their magnitude in each scenario
-pub record Entered (amounts : ℕ → ℕ) (side : ℕ) (more : ℕ → ℕ) (section : List ℤ) (sizes : List ℕ) (answer : Slotted) (section' : List ℤ) (sizes' : List ℕ) : Type 0 where
+pub record Entered (amounts : ℕ → ℕ) (side : ℕ) (more : ℕ → ℕ) (section : List ℤ) (sizes : List ℕ) (answer : Taken) (section' : List ℤ) (sizes' : List ℕ) : Type 0 where
   pub answered : answer ≡ answerOf (roomFor more sizes scenarios)
   pub cells : section' ≡ onlyIf (roomFor more sizes scenarios) (plusℤ section (λ j. sided side (pos (amounts j)))) section
   pub sums : sizes' ≡ onlyIf (roomFor more sizes scenarios) (plus sizes more) sizes

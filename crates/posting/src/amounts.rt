@@ -5,8 +5,9 @@ ghost use lib.ListN.{length, getD};
 ghost use Rattle.laws.specs.Sums.{sumOf};
 ghost use Rattle.paper.specs.Scales.{billion};
 ghost use Rattle.paper.specs.Ladder.{buckets};
-ghost use Rattle.record.specs.Told.{amountsFrom};
+ghost use Rattle.record.specs.Answers.{amountsFrom};
 ghost use Rattle.posting.specs.Parts.{AtMost};
+use paper::BUCKETS;
 use record::bytes::four_at;
 
 // The amount of bucket k + 1.
@@ -25,7 +26,7 @@ pub fn sum_from(body: &[u8], from: usize) -> u64
 {
     let mut total: u64 = 0;
     let mut k: usize = 0;
-    while k < 19 {
+    while k < BUCKETS {
         total += amount_of(body, from, k);
         k += 1;
     }

@@ -11,6 +11,8 @@ ghost use Rattle.paper.specs.Ledger.{sectionSize};
 ghost use Rattle.arrays.specs.Slots.{plusℤ};
 ghost use Rattle.posting.specs.Parts.{AtMost, AtMostℤ, column, trillion};
 use ladder::Thousands;
+use paper::BUCKETS;
+use paper::SCENARIOS;
 
 // An asset plus, a liability minus; an option sold plus, one bought minus.
 pub fn sided(side: u32, value: Thousands) -> Thousands
@@ -46,8 +48,8 @@ pub fn post(section: &mut [i64], bucket: usize, amount: Thousands)
     ensures { λ _. ⌜ now (section .exit) ≡ plusℤ (now (section .entry)) (column bucket (amount .0)) ⌝ }
 {
     let mut i: usize = 0;
-    while i < 7 {
-        let at = 19 * i + (bucket - 1);
+    while i < SCENARIOS {
+        let at = BUCKETS * i + (bucket - 1);
         add_into(section, at, amount);
         i += 1;
     }
@@ -76,9 +78,9 @@ pub fn add_row(section: &mut [i64], side: u32, row: &[u64])
     ensures { λ _. ⌜ now (section .exit) ≡ plusℤ (now (section .entry)) (λ j. sided side (pos (getD (now (row .entry)) (j % buckets) 0))) ⌝ }
 {
     let mut i: usize = 0;
-    while i < 7 {
-        let from = 19 * i;
-        let to = from + 19;
+    while i < SCENARIOS {
+        let from = BUCKETS * i;
+        let to = from + BUCKETS;
         add_flows(&mut section[from..to], side, row);
         i += 1;
     }

@@ -3,15 +3,24 @@ ghost use mathlib.Core.List.{_++_};
 ghost use mathlib.Core.Path.{_≡_};
 ghost use Prim.Native.Nat.{_≤_};
 ghost use lib.ListN.{length, drop};
+ghost use Rattle.paper.specs.Records.{currencies};
 ghost use Rattle.paper.specs.Ledger.{cells, figures};
 ghost use Rattle.paper.specs.Book.{outcome};
 ghost use Rattle.paper.specs.Program.{capitalIn, textOf, printed};
 use book::assess::Assessed;
 use book::assess::assess;
 use book::face::refusal_number;
+use paper::CELLS;
+use paper::FIGURES;
+use paper::LONGEST_BOOK;
 use record::bytes::four_at;
 use text::refusal::write_refusal;
 use text::report::write_report;
+
+// The bytes of T, which stand before the book.
+const CAPITAL: usize = 8;
+
+const LONGEST_INPUT: usize = CAPITAL + LONGEST_BOOK;
 
 // T in 8 bytes, unsigned, the highest first.
 fn capital_in(input: &[u8]) -> u64
@@ -24,16 +33,17 @@ fn capital_in(input: &[u8]) -> u64
 // The rooms are just as long as a report and a ledger.
 fn print_book(book: &[u8], tier1: u64, out: &mut [u8]) -> usize
     requires { ⌜ 2048 ≤ length (now out) ⌝ }
-    ensures { λ r. ⌜ (r ≡ length (textOf (outcome (now (book .entry)) tier1 figures cells) tier1)) × (r ≤ 2048) ⌝ }
-    ensures { λ r. ⌜ now (out .exit) ≡ textOf (outcome (now (book .entry)) tier1 figures cells) tier1 ++ drop r (now (out .entry)) ⌝ }
+    ensures { λ r. ⌜ (r ≡ length (textOf currencies (outcome currencies (now (book .entry)) tier1 (figures currencies) (cells currencies)) tier1)) × (r ≤ 2048) ⌝ }
+    ensures { λ r. ⌜ now (out .exit) ≡ textOf currencies (outcome currencies (now (book .entry)) tier1 (figures currencies) (cells currencies)) tier1 ++ drop r (now (out .entry)) ⌝ }
 {
-    let mut report = [0i64; 58];
-    let mut ledger = [0i64; 1064];
+    let mut report = [0i64; FIGURES];
+    let mut ledger = [0i64; CELLS];
     match assess(book, tier1, &mut report, &mut ledger) {
         Assessed::Reported(curves) => write_report(&report, curves, out),
-        Assessed::Refused(cause, place) => {
+        Assessed::Refused(fault) => {
+            let cause = fault.cause;
             let number = refusal_number(cause) as u64;
-            write_refusal(number, place as u64, out)
+            write_refusal(number, fault.place as u64, out)
         }
     }
 }
@@ -41,15 +51,15 @@ fn print_book(book: &[u8], tier1: u64, out: &mut [u8]) -> usize
 // Answers how many bytes it prints; those after them are left as they are.
 pub fn print_answer(input: &[u8], out: &mut [u8]) -> usize
     requires { ⌜ 2048 ≤ length (now out) ⌝ }
-    ensures { λ r. ⌜ (r ≡ length (printed (now (input .entry)))) × (r ≤ 2048) ⌝ }
-    ensures { λ r. ⌜ now (out .exit) ≡ printed (now (input .entry)) ++ drop r (now (out .entry)) ⌝ }
+    ensures { λ r. ⌜ (r ≡ length (printed currencies (now (input .entry)))) × (r ≤ 2048) ⌝ }
+    ensures { λ r. ⌜ now (out .exit) ≡ printed currencies (now (input .entry)) ++ drop r (now (out .entry)) ⌝ }
 {
-    if input.len() > 65536 {
+    if input.len() > LONGEST_INPUT {
         return write_refusal(17, 0, out);
     }
-    if input.len() < 8 {
+    if input.len() < CAPITAL {
         return write_refusal(16, 0, out);
     }
     let tier1 = capital_in(input);
-    print_book(&input[8..], tier1, out)
+    print_book(&input[CAPITAL..], tier1, out)
 }

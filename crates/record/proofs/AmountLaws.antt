@@ -1,14 +1,14 @@
 -- Nineteen amounts in a row: what the loop over them knows, and what its answer tells.
-use Prim.Native.Nat.{ℕ, suc, _+_, _*_, _≤_, _<_}
+use Prim.Native.Nat.{ℕ, _+_, _*_, _≤_, _<_}
 use mathlib.Core.Bool.{false}
-use mathlib.Core.List.{List}
+use mathlib.Core.List.{List, []}
 use mathlib.Core.Path.{_≡_, refl, sym, ap, _∙_}
 use native.Mathlib.Omega.{arith}
 use borrow.Author.Count.{below-more}
 use borrow.Author.Tests.{ltb-false}
 use Rattle.laws.specs.Sums.{sum, sumOf}
 use Rattle.laws.proofs.Sums.{sum-more, sum-le}
-use Rattle.paper.specs.declared.Refusal.{Refusal}
+use Rattle.paper.specs.declared.Fault.{Fault}
 use Rattle.paper.specs.declared.Refusal.the-variants.{TooLarge}
 use Rattle.paper.specs.Scales.{billion}
 use Rattle.paper.specs.Ladder.{buckets}
@@ -17,20 +17,14 @@ use Rattle.paper.specs.TurnedDown.{badAmount}
 use Rattle.paper.specs.Fields.{four, amountAt, each}
 use Rattle.record.specs.declared.amounts.Amounts.{Amounts}
 use Rattle.record.specs.declared.amounts.Amounts.the-variants.{Sum, Bad}
-use Rattle.record.specs.Told.{amountsFrom, amountsRead}
-use Rattle.record.proofs.Ground.{sum-tabulate}
-use Rattle.record.proofs.FieldLaws.{field-accepts, field-refuses, each-good, each-bad, each-accepts, each-refuses}
+use Rattle.record.specs.Answers.{amountsFrom, amountsOf}
+use Rattle.record.proofs.Lists.{sum-tabulate}
+use Rattle.record.proofs.FieldLaws.{field-accepts, each-good, each-bad, each-accepts}
 
 -- an answer's own cases
-was-accepted : (m : Checked (List ℕ)) (s : ℕ) → amountsRead m ≡ Sum s → (xs : List ℕ) × (m ≡ accepted xs) × (s ≡ sumOf xs)
-unfolding amountsRead
+was-accepted : (m : Checked (List ℕ)) (s : ℕ) → amountsOf m ≡ Sum s → (xs : List ℕ) × (m ≡ accepted xs) × (s ≡ sumOf xs)
 was-accepted (accepted xs) s e = (xs, refl, cc)
-was-accepted (refused q place) s e = let z : _≡_ {A = ℕ} 0 1 = cc in absurd (omega arith)
-
-was-refused : (m : Checked (List ℕ)) (place : ℕ) → amountsRead m ≡ Bad place → (q : Refusal) × (m ≡ refused q place)
-unfolding amountsRead
-was-refused (accepted xs) place e = let z : _≡_ {A = ℕ} 0 1 = cc in absurd (omega arith)
-was-refused (refused q found) place e = let same : found ≡ place = cc in (q, ap (refused q) same)
+was-accepted (refused q place) s e = ([], cc, cc)
 
 all-limits : sum (λ k. billion) buckets ≡ billion * buckets
 unfolding sum
@@ -63,16 +57,13 @@ module _ (body : List ℕ) (o : ℕ) where
       }
 
   -- the loop left at bucket k + 1, or after the last
-  pub summed-stops : (k s : ℕ) (place : ℕ) → Summed k s → k < buckets → amountAt body (o + 4 * k) ≡ refused TooLarge place
-      → amountsRead (each (amountAt body) buckets o) ≡ Bad (suc (o + 4 * k))
-  unfolding amountsRead
-  summed-stops k s place h l e =
-      ap amountsRead (each-bad badAmount TooLarge (four body) o buckets k l (field-refuses badAmount TooLarge (o + 4 * k) (amount k) TooLarge place e) (h .good))
+  pub summed-stops : (k s : ℕ) {f : Fault} → Summed k s → k < buckets → amountAt body (o + 4 * k) ≡ refused (f .cause) (f .place)
+      → amountsOf (each (amountAt body) buckets o) ≡ Bad f
+  summed-stops k s h l e = ap amountsOf (each-bad badAmount TooLarge (four body) o buckets k l e (h .good))
 
-  pub summed-ends : (s : ℕ) → Summed buckets s → amountsRead (each (amountAt body) buckets o) ≡ Sum s
-  unfolding amountsRead
+  pub summed-ends : (s : ℕ) → Summed buckets s → amountsOf (each (amountAt body) buckets o) ≡ Sum s
   summed-ends s h =
-      ap amountsRead (each-good badAmount TooLarge (four body) o buckets (h .good)) ∙ ap Sum (sum-tabulate amount buckets ∙ sym (h .total))
+      ap amountsOf (each-good badAmount TooLarge (four body) o buckets (h .good)) ∙ ap Sum (sum-tabulate amount buckets ∙ sym (h .total))
 
   -- what an answer tells of the amounts
   pub record Amounting (s : ℕ) : Type 0 where
@@ -84,15 +75,9 @@ module _ (body : List ℕ) (o : ℕ) where
   unfolding badAmount
   limited h = omega (arith, sum-tabulate amount buckets, sum-le amount (λ k. billion) buckets (λ k l. ltb-false _ _ (h k l)), all-limits)
 
-  pub amounts-summed : {r : Amounts} {s : ℕ} → r ≡ amountsRead (each (amountAt body) buckets o) → r ≡ Sum s → Amounting s
+  pub amounts-summed : {r : Amounts} {s : ℕ} → r ≡ amountsOf (each (amountAt body) buckets o) → r ≡ Sum s → Amounting s
   amounts-summed {r} {s} p e =
       let t = was-accepted (each (amountAt body) buckets o) s (sym p ∙ e) in
       let u = each-accepts badAmount TooLarge (four body) o buckets (t .0) (t .1) in
       let same : s ≡ sumOf (amountsFrom body o) = t .2 ∙ ap sumOf (u .0) in
       record { list = t .1 ∙ ap accepted (u .0); total = same; small = omega (arith, limited (u .1)) }
-
-  pub amounts-refused : {r : Amounts} {place : ℕ} → r ≡ amountsRead (each (amountAt body) buckets o) → r ≡ Bad place
-      → each (amountAt body) buckets o ≡ refused TooLarge place
-  amounts-refused {r} {place} p e =
-      let t = was-refused (each (amountAt body) buckets o) place (sym p ∙ e) in
-      each-refuses badAmount TooLarge (four body) o buckets (t .0) place (t .1)

@@ -14,7 +14,7 @@ use Rattle.laws.proofs.Lists.{tabulate-at}
 use Rattle.paper.specs.Ladder.{buckets, midpoints, midpoint}
 use Rattle.paper.specs.Behaviour.{weighedCore}
 use Rattle.paper.specs.Fields.{four}
-use Rattle.record.specs.Told.{amountsFrom}
+use Rattle.record.specs.Answers.{amountsFrom}
 
 -- another category has no cap
 pub uncapped : (first second third category : ℕ) → (category ≡ 1 → ⊥) → (category ≡ 2 → ⊥) → (category ≡ 3 → ⊥)

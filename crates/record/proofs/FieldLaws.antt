@@ -3,7 +3,8 @@ use Prim.Native.Nat.{ℕ, zero, suc, _+_, _*_, _≤_, _<_}
 use mathlib.Core.Bool.{Bool, true, false, _||_}
 use mathlib.Core.List.{List, _∷_}
 use mathlib.Core.Logic.{_⊎_, inl, inr, ⊎-elim}
-use mathlib.Core.Path.{_≡_, refl, sym, ap, _∙_}
+use mathlib.Core.Path.{_≡_, refl, sym, _∙_}
+use native.Mathlib.Numerals.{add-one}
 use native.Mathlib.Nat.{add-zero, eq-or-lt-of-le}
 use native.Mathlib.Omega.{arith}
 use borrow.Author.Tests.{ne-eqb}
@@ -15,29 +16,9 @@ use Rattle.laws.specs.Lists.{tabulateFrom, tabulate}
 use Rattle.laws.proofs.Tests.{lt-or-ge, first-holds, first-before}
 use Rattle.paper.specs.declared.Refusal.{Refusal}
 use Rattle.paper.specs.Scales.{billion}
-use Rattle.paper.specs.Refusals.{Checked, accepted, refused, _>>=_, _>>_, unless}
+use Rattle.paper.specs.Refusals.{Checked, accepted, refused, _>>=_, unless}
 use Rattle.paper.specs.TurnedDown.{badPeriod, badOption}
 use Rattle.paper.specs.Fields.{field, each}
-use Rattle.paper.specs.Book.{placed}
-
-never : {A : Type 0} {a : A} {q : Refusal} {place : ℕ} → accepted a ≡ refused q place → ⊥
-never e = let z : _≡_ {A = ℕ} 0 1 = cc in omega arith
-
--- what is accepted after a field or a rule had that accepted; and a place makes no refusal
-pub after-field : {A B : Type 0} {b : B} (m : Checked A) (next : A → Checked B) → (m >>= next) ≡ accepted b → (a : A) × (m ≡ accepted a) × (next a ≡ accepted b)
-unfolding _>>=_
-after-field (accepted a) next e = (a, refl, e)
-after-field (refused q place) next e = absurd (never (sym e))
-
-pub after-rule : {A B : Type 0} {b : B} (m : Checked A) (rest : Checked B) → (m >> rest) ≡ accepted b → rest ≡ accepted b
-unfolding _>>_
-after-rule (accepted a) rest e = e
-after-rule (refused q place) rest e = absurd (never (sym e))
-
-pub unplaced : {A : Type 0} {a : A} (at : ℕ) (m : Checked A) → placed at m ≡ accepted a → m ≡ accepted a
-unfolding placed
-unplaced at (accepted a) e = e
-unplaced at (refused q place) e = absurd (never (sym e))
 
 -- ---- one field
 
@@ -50,9 +31,10 @@ module _ {A : Type 0} (bad : A → Bool) (q : Refusal) where
   unfolding field unless
   field-bad o x e = rw e
 
-  pub field-ext : (worse : A → Bool) (o : ℕ) (x : A) → bad x ≡ worse x → field bad q o x ≡ field worse q o x
+  -- in an answer that holds what was tested
+  pub field-read : (o : ℕ) {F : Type 0} (of : Checked A → F) {r : F} {x y : A} → r ≡ of (unless (bad x) q (o + 1) x) → x ≡ y → r ≡ of (field bad q o y)
   unfolding field
-  field-ext worse o x e = rw e
+  field-read o of p e = p ∙ rw (add-one o, e)
 
 -- and back
 module _ {A : Type 0} (bad : A → Bool) (q : Refusal) (o : ℕ) (x : A) where
@@ -61,7 +43,7 @@ module _ {A : Type 0} (bad : A → Bool) (q : Refusal) (o : ℕ) (x : A) where
   field-accepts y e = by (bad x) refl e
     where
       by : (b : Bool) → bad x ≡ b → unless b q (suc o) x ≡ accepted y → (x ≡ y) × (bad x ≡ false)
-      by true t u = absurd (never (sym u))
+      by true t u = (cc, cc)
       by false t u = (cc, t)
 
   pub field-refuses : (r : Refusal) (place : ℕ) → field bad q o x ≡ refused r place → bad x ≡ true
@@ -70,7 +52,7 @@ module _ {A : Type 0} (bad : A → Bool) (q : Refusal) (o : ℕ) (x : A) where
     where
       by : (b : Bool) → bad x ≡ b → unless b q (suc o) x ≡ refused r place → bad x ≡ true
       by true t u = t
-      by false t u = absurd (never u)
+      by false t u = cc
 
 or-nothing : (b : Bool) → b || false ≡ b
 or-nothing true = refl
@@ -113,6 +95,9 @@ module _ {A : Type 0} (bad : A → Bool) (q : Refusal) (get : ℕ → A) where
   abbrev nth : ℕ → ℕ → A
   nth o k = get (o + 4 * k)
 
+  abbrev read : ℕ → ℕ → Checked A
+  read o k = field bad q (o + 4 * k) (nth o k)
+
   next-at : (o a : ℕ) → o + 4 * a + 4 ≡ o + 4 * suc a
   next-at o a = omega arith
 
@@ -122,26 +107,26 @@ module _ {A : Type 0} (bad : A → Bool) (q : Refusal) (get : ℕ → A) where
   good-from o a (suc n) h =
       rw (field-good bad q (o + 4 * a) (nth o a) (h a (omega arith) (omega arith)), next-at o a, good-from o (suc a) n (λ k l m. h k (omega arith) (omega arith)))
 
-  bad-from : (o a n k : ℕ) → a ≤ k → k < a + n → bad (nth o k) ≡ true → ((j : ℕ) → a ≤ j → j < k → bad (nth o j) ≡ false)
-      → run n (o + 4 * a) ≡ refused q (suc (o + 4 * k))
+  bad-from : (o a n k : ℕ) {r : Refusal} {place : ℕ} → a ≤ k → k < a + n → read o k ≡ refused r place → ((j : ℕ) → a ≤ j → j < k → bad (nth o j) ≡ false)
+      → run n (o + 4 * a) ≡ refused r place
   unfolding each _>>=_
-  bad-from o a zero k l m t h = absurd (omega arith)
-  bad-from o a (suc n) k l m t h =
-      ⊎-elim here (λ p. later p (bad-from o (suc a) n k p (omega arith) t (λ j u v. h j (omega arith) v))) (eq-or-lt-of-le l)
+  bad-from o a zero k l m e h = absurd (omega arith)
+  bad-from o a (suc n) k {r} {place} l m e h =
+      ⊎-elim here (λ p. later p (bad-from o (suc a) n k p (omega arith) e (λ j u v. h j (omega arith) v))) (eq-or-lt-of-le l)
     where
-      here : a ≡ k → run (suc n) (o + 4 * a) ≡ refused q (suc (o + 4 * k))
-      here e = rw (e, field-bad bad q (o + 4 * k) (nth o k) t)
+      here : a ≡ k → run (suc n) (o + 4 * a) ≡ refused r place
+      here t = rw (t, e)
 
-      later : a < k → run n (o + 4 * suc a) ≡ refused q (suc (o + 4 * k)) → run (suc n) (o + 4 * a) ≡ refused q (suc (o + 4 * k))
-      later p e = rw (field-good bad q (o + 4 * a) (nth o a) (h a (omega arith) p), next-at o a, e)
+      later : a < k → run n (o + 4 * suc a) ≡ refused r place → run (suc n) (o + 4 * a) ≡ refused r place
+      later p t = rw (field-good bad q (o + 4 * a) (nth o a) (h a (omega arith) p), next-at o a, t)
 
   -- each is fine
   pub each-good : (o n : ℕ) → ((k : ℕ) → k < n → bad (nth o k) ≡ false) → run n o ≡ accepted (tabulate (nth o) n)
   each-good o n h = rw add-zero at (good-from o 0 n (λ k l m. h k (omega arith)))
 
-  -- k is the first that is bad
-  pub each-bad : (o n k : ℕ) → k < n → bad (nth o k) ≡ true → ((j : ℕ) → j < k → bad (nth o j) ≡ false) → run n o ≡ refused q (suc (o + 4 * k))
-  each-bad o n k l t h = rw add-zero at (bad-from o 0 n k (omega arith) (omega arith) t (λ j u v. h j v))
+  -- k is the first that is refused
+  pub each-bad : (o n k : ℕ) {r : Refusal} {place : ℕ} → k < n → read o k ≡ refused r place → ((j : ℕ) → j < k → bad (nth o j) ≡ false) → run n o ≡ refused r place
+  each-bad o n k l e h = rw add-zero at (bad-from o 0 n k (omega arith) (omega arith) e (λ j u v. h j v))
 
   -- one or the other
   abbrev Fine : ℕ → ℕ → Type 0
@@ -149,7 +134,7 @@ module _ {A : Type 0} (bad : A → Bool) (q : Refusal) (get : ℕ → A) where
 
   ends : (o n : ℕ) → Fine o n ⊎ ((place : ℕ) × (run n o ≡ refused q place))
   ends o n =
-      ⊎-elim (λ l. inr (_, each-bad o n stop l (first-holds p 0 n (omega arith)) (λ j m. first-before p 0 n j (omega arith) m)))
+      ⊎-elim (λ l. inr (_, each-bad o n stop l (field-bad bad q (o + 4 * stop) (nth o stop) (first-holds p 0 n (omega arith))) (λ j m. first-before p 0 n j (omega arith) m)))
       (λ l. inl (each-good o n (all-good l), all-good l)) (lt-or-ge stop n)
     where
       p : ℕ → Bool
@@ -169,13 +154,4 @@ module _ {A : Type 0} (bad : A → Bool) (q : Refusal) (get : ℕ → A) where
       fine (g, h) = (cc, h)
 
       gone : ((place : ℕ) × (run n o ≡ refused q place)) → (xs ≡ tabulate (nth o) n) × ((k : ℕ) → k < n → bad (nth o k) ≡ false)
-      gone (place, g) = absurd (never (sym e ∙ g))
-
-  pub each-refuses : (o n : ℕ) (r : Refusal) (place : ℕ) → run n o ≡ refused r place → run n o ≡ refused q place
-  each-refuses o n r place e = ⊎-elim fine gone (ends o n)
-    where
-      fine : Fine o n → run n o ≡ refused q place
-      fine (g, h) = absurd (never (sym g ∙ e))
-
-      gone : ((found : ℕ) × (run n o ≡ refused q found)) → run n o ≡ refused q place
-      gone (found, g) = let same : found ≡ place = cc in g ∙ ap (refused q) same
+      gone (place, g) = (cc, λ k l. cc)

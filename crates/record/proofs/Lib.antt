@@ -1,10 +1,11 @@
-pub mod Ground
+-- lists, with no product words
+pub mod Lists
 -- a field, and fields in a row, by the paper's definitions
 pub mod FieldLaws
+-- an answer, and a body decoded field by field
+pub mod Reading
 -- the loops, and what their answers tell
 pub mod AmountLaws
 pub mod RateLaws
 pub mod DepositLaws
 pub mod LoanLaws
--- a body decoded field by field
-pub mod Heard

@@ -1,16 +1,14 @@
 // Kind 2, fixed coupons: currency, side, period (1), count (2), coupon, principal.
 ghost use mathlib.Core.Path.{_≡_};
-ghost use lib.ListN.{length};
+ghost use Rattle.paper.specs.Records.{currencies};
 ghost use Rattle.paper.specs.Decode.{decodeCoupons};
-ghost use Rattle.paper.specs.Book.{placed};
-ghost use Rattle.record.specs.Told.{couponsRead};
+ghost use Rattle.record.specs.Answers.{Body, couponsRead};
 use crate::fields::Field;
 use crate::fields::amount_at;
 use crate::fields::count_at;
-use crate::fields::currency_at;
 use crate::fields::period_at;
 use crate::fields::side_at;
-use paper::Refusal;
+use paper::Fault;
 
 pub struct Coupons {
     pub currency: u32,
@@ -23,30 +21,32 @@ pub struct Coupons {
 
 pub enum DecodedCoupons {
     Is(Coupons),
-    Refused(Refusal),
+    Refused(Fault),
 }
 
-pub fn decode_coupons(body: &[u8]) -> DecodedCoupons
-    requires { ⌜ length (now body) ≡ 13 ⌝ }
-    ensures { λ r. ⌜ couponsRead r ≡ placed 0 (decodeCoupons (now (body .entry))) ⌝ }
+pub fn decode_coupons(currency: u32, body: &[u8]) -> DecodedCoupons
+    requires { ⌜ Body 13 currency (now body) ⌝ }
+    ensures { λ r. ⌜ couponsRead r ≡ decodeCoupons currencies (now (body .entry)) ⌝ }
 {
-    let Field::Value(currency) = currency_at(body, 0) else {
-        return DecodedCoupons::Refused(Refusal::BadCurrency);
+    let read = side_at(body, 1);
+    let Field::Value(side) = read else {
+        return DecodedCoupons::Refused(read.fault());
     };
-    let Field::Value(side) = side_at(body, 1) else {
-        return DecodedCoupons::Refused(Refusal::BadSide);
+    let read = period_at(body, 2);
+    let Field::Value(period) = read else {
+        return DecodedCoupons::Refused(read.fault());
     };
-    let Field::Value(period) = period_at(body, 2) else {
-        return DecodedCoupons::Refused(Refusal::BadTerm);
+    let read = count_at(period, body, 3);
+    let Field::Value(count) = read else {
+        return DecodedCoupons::Refused(read.fault());
     };
-    let Field::Value(count) = count_at(period, body, 3) else {
-        return DecodedCoupons::Refused(Refusal::BadTerm);
+    let read = amount_at(body, 5);
+    let Field::Value(coupon) = read else {
+        return DecodedCoupons::Refused(read.fault());
     };
-    let Field::Value(coupon) = amount_at(body, 5) else {
-        return DecodedCoupons::Refused(Refusal::TooLarge);
-    };
-    let Field::Value(principal) = amount_at(body, 9) else {
-        return DecodedCoupons::Refused(Refusal::TooLarge);
+    let read = amount_at(body, 9);
+    let Field::Value(principal) = read else {
+        return DecodedCoupons::Refused(read.fault());
     };
     DecodedCoupons::Is(Coupons {
         currency,

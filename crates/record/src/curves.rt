@@ -1,20 +1,17 @@
 // Kind 8, a curve: currency, 19 signed rates, parallel, short, long shock (2 each). The rates are checked where they stand; the answer holds the
 // other fields.
 ghost use mathlib.Core.Path.{_≡_};
-ghost use Prim.Native.Nat.{_≤_};
-ghost use lib.ListN.{length};
+ghost use Rattle.paper.specs.Records.{currencies};
 ghost use Rattle.paper.specs.Decode.{decodeCurve};
-ghost use Rattle.paper.specs.Book.{placed};
-ghost use Rattle.arrays.specs.Rooms.{curvedBy};
-ghost use Rattle.record.specs.Told.{curveRead};
+ghost use Rattle.record.specs.Answers.{Body, curveRead};
 use crate::fields::Field;
-use crate::fields::currency_at;
 use crate::fields::shock_at;
 use crate::rates::Rates;
 use crate::rates::rates_at;
-use arrays::has_curve;
 use curve::Shocks;
 use curve::first_out_of_range;
+use paper::BUCKETS;
+use paper::Fault;
 use paper::Refusal;
 
 pub struct Curve {
@@ -24,40 +21,48 @@ pub struct Curve {
 
 pub enum DecodedCurve {
     Is(Curve),
-    Refused(Refusal),
+    Refused(Fault),
 }
 
-// 12 by the mask of the currencies that have a curve already.
-pub fn decode_curve(body: &[u8], curved: u32) -> DecodedCurve
-    requires { ⌜ length (now body) ≡ 83 ⌝ }
-    ensures { λ r. ⌜ curveRead (now (body .entry)) r ≡ placed 0 (decodeCurve (curvedBy curved) (now (body .entry))) ⌝ }
+// 12 where the currency has a curve already.
+pub fn decode_curve(currency: u32, curved: bool, body: &[u8]) -> DecodedCurve
+    requires { ⌜ Body 83 currency (now body) ⌝ }
+    ensures { λ r. ⌜ curveRead (now (body .entry)) r ≡ decodeCurve currencies (λ _. curved) (now (body .entry)) ⌝ }
 {
-    let Field::Value(currency) = currency_at(body, 0) else {
-        return DecodedCurve::Refused(Refusal::BadCurrency);
-    };
-    if has_curve(curved, currency) {
-        return DecodedCurve::Refused(Refusal::SecondCurve);
+    if curved {
+        return DecodedCurve::Refused(Fault {
+            cause: Refusal::SecondCurve,
+            place: 0,
+        });
     }
-    let mut rates = [0i64; 19];
-    let Rates::All = rates_at(body, &mut rates) else {
-        return DecodedCurve::Refused(Refusal::OutOfRange);
+    let mut rates = [0i64; BUCKETS];
+    let read = rates_at(body, 1, &mut rates);
+    let Rates::All = read else {
+        return DecodedCurve::Refused(read.fault());
     };
-    let Field::Value(parallel) = shock_at(body, 77) else {
-        return DecodedCurve::Refused(Refusal::OutOfRange);
+    let read = shock_at(body, 77);
+    let Field::Value(parallel) = read else {
+        return DecodedCurve::Refused(read.fault());
     };
-    let Field::Value(short) = shock_at(body, 79) else {
-        return DecodedCurve::Refused(Refusal::OutOfRange);
+    let read = shock_at(body, 79);
+    let Field::Value(short) = read else {
+        return DecodedCurve::Refused(read.fault());
     };
-    let Field::Value(long) = shock_at(body, 81) else {
-        return DecodedCurve::Refused(Refusal::OutOfRange);
+    let read = shock_at(body, 81);
+    let Field::Value(long) = read else {
+        return DecodedCurve::Refused(read.fault());
     };
     let shocks = Shocks {
         parallel,
         short,
         long,
     };
-    if first_out_of_range(&rates, shocks) < 19 {
-        return DecodedCurve::Refused(Refusal::OutOfRange);
+    let shocked = first_out_of_range(&rates, shocks);
+    if shocked < BUCKETS {
+        return DecodedCurve::Refused(Fault {
+            cause: Refusal::OutOfRange,
+            place: 2 + 4 * shocked,
+        });
     }
     DecodedCurve::Is(Curve { currency, shocks })
 }

@@ -5,18 +5,19 @@ ghost use mathlib.Core.Path.{_≡_};
 ghost use Prim.Native.Nat.{_+_, _*_, _≤_};
 ghost use lib.ListN.{length, getD};
 ghost use Rattle.laws.specs.Tests.{_below_};
+ghost use Rattle.paper.specs.Records.{currencies};
 ghost use Rattle.paper.specs.Behaviour.{coreCap, averageCap, weighedCore};
 ghost use Rattle.paper.specs.Decode.{decodeDeposit};
-ghost use Rattle.paper.specs.Book.{placed};
-ghost use Rattle.record.specs.Told.{amountsFrom, depositRead};
+ghost use Rattle.record.specs.Answers.{Body, amountsFrom, depositRead};
 use crate::amounts::Amounts;
 use crate::amounts::amounts_at;
 use crate::bytes::four_at;
 use crate::fields::Field;
 use crate::fields::amount_at;
 use crate::fields::category_at;
-use crate::fields::currency_at;
 use ladder::midpoints;
+use paper::BUCKETS;
+use paper::Fault;
 use paper::Refusal;
 
 pub struct Deposit {
@@ -27,7 +28,7 @@ pub struct Deposit {
 
 pub enum DecodedDeposit {
     Is(Deposit),
-    Refused(Refusal),
+    Refused(Fault),
 }
 
 // The cap of categories 1, 2, 3.
@@ -65,34 +66,40 @@ fn weighed_core(body: &[u8]) -> u64
     let middles = midpoints();
     let mut weighed: u64 = 0;
     let mut k: usize = 0;
-    while k < 19 {
+    while k < BUCKETS {
         weighed += (four_at(body, 6 + 4 * k) as u64) * (middles[k] as u64);
         k += 1;
     }
     weighed
 }
 
-pub fn decode_deposit(body: &[u8]) -> DecodedDeposit
-    requires { ⌜ length (now body) ≡ 82 ⌝ }
-    ensures { λ r. ⌜ depositRead (now (body .entry)) r ≡ placed 0 (decodeDeposit (now (body .entry))) ⌝ }
+pub fn decode_deposit(currency: u32, body: &[u8]) -> DecodedDeposit
+    requires { ⌜ Body 82 currency (now body) ⌝ }
+    ensures { λ r. ⌜ depositRead (now (body .entry)) r ≡ decodeDeposit currencies (now (body .entry)) ⌝ }
 {
-    let Field::Value(currency) = currency_at(body, 0) else {
-        return DecodedDeposit::Refused(Refusal::BadCurrency);
+    let read = category_at(body, 1);
+    let Field::Value(category) = read else {
+        return DecodedDeposit::Refused(read.fault());
     };
-    let Field::Value(category) = category_at(body, 1) else {
-        return DecodedDeposit::Refused(Refusal::BadCategory);
+    let read = amount_at(body, 2);
+    let Field::Value(total) = read else {
+        return DecodedDeposit::Refused(read.fault());
     };
-    let Field::Value(total) = amount_at(body, 2) else {
-        return DecodedDeposit::Refused(Refusal::TooLarge);
-    };
-    let Amounts::Sum(core) = amounts_at(body, 6) else {
-        return DecodedDeposit::Refused(Refusal::TooLarge);
+    let read = amounts_at(body, 6);
+    let Amounts::Sum(core) = read else {
+        return DecodedDeposit::Refused(read.fault());
     };
     if above_cap(category, total, core) {
-        return DecodedDeposit::Refused(Refusal::CoreAboveCap);
+        return DecodedDeposit::Refused(Fault {
+            cause: Refusal::CoreAboveCap,
+            place: 0,
+        });
     }
     if too_long(category, core, weighed_core(body)) {
-        return DecodedDeposit::Refused(Refusal::CoreTooLong);
+        return DecodedDeposit::Refused(Fault {
+            cause: Refusal::CoreTooLong,
+            place: 0,
+        });
     }
     DecodedDeposit::Is(Deposit {
         currency,

@@ -1,16 +1,14 @@
 // Kind 3, floating: currency, side, months (2), days (1), principal, coupon.
 ghost use mathlib.Core.Path.{_≡_};
-ghost use lib.ListN.{length};
+ghost use Rattle.paper.specs.Records.{currencies};
 ghost use Rattle.paper.specs.Decode.{decodeFloating};
-ghost use Rattle.paper.specs.Book.{placed};
-ghost use Rattle.record.specs.Told.{floatingRead};
+ghost use Rattle.record.specs.Answers.{Body, floatingRead};
 use crate::fields::Field;
 use crate::fields::amount_at;
-use crate::fields::currency_at;
 use crate::fields::days_at;
 use crate::fields::months_at;
 use crate::fields::side_at;
-use paper::Refusal;
+use paper::Fault;
 
 pub struct Floating {
     pub currency: u32,
@@ -23,30 +21,32 @@ pub struct Floating {
 
 pub enum DecodedFloating {
     Is(Floating),
-    Refused(Refusal),
+    Refused(Fault),
 }
 
-pub fn decode_floating(body: &[u8]) -> DecodedFloating
-    requires { ⌜ length (now body) ≡ 13 ⌝ }
-    ensures { λ r. ⌜ floatingRead r ≡ placed 0 (decodeFloating (now (body .entry))) ⌝ }
+pub fn decode_floating(currency: u32, body: &[u8]) -> DecodedFloating
+    requires { ⌜ Body 13 currency (now body) ⌝ }
+    ensures { λ r. ⌜ floatingRead r ≡ decodeFloating currencies (now (body .entry)) ⌝ }
 {
-    let Field::Value(currency) = currency_at(body, 0) else {
-        return DecodedFloating::Refused(Refusal::BadCurrency);
+    let read = side_at(body, 1);
+    let Field::Value(side) = read else {
+        return DecodedFloating::Refused(read.fault());
     };
-    let Field::Value(side) = side_at(body, 1) else {
-        return DecodedFloating::Refused(Refusal::BadSide);
+    let read = months_at(body, 2);
+    let Field::Value(months) = read else {
+        return DecodedFloating::Refused(read.fault());
     };
-    let Field::Value(months) = months_at(body, 2) else {
-        return DecodedFloating::Refused(Refusal::BadTerm);
+    let read = days_at(body, 4);
+    let Field::Value(days) = read else {
+        return DecodedFloating::Refused(read.fault());
     };
-    let Field::Value(days) = days_at(body, 4) else {
-        return DecodedFloating::Refused(Refusal::BadTerm);
+    let read = amount_at(body, 5);
+    let Field::Value(principal) = read else {
+        return DecodedFloating::Refused(read.fault());
     };
-    let Field::Value(principal) = amount_at(body, 5) else {
-        return DecodedFloating::Refused(Refusal::TooLarge);
-    };
-    let Field::Value(coupon) = amount_at(body, 9) else {
-        return DecodedFloating::Refused(Refusal::TooLarge);
+    let read = amount_at(body, 9);
+    let Field::Value(coupon) = read else {
+        return DecodedFloating::Refused(read.fault());
     };
     DecodedFloating::Is(Floating {
         currency,

@@ -4,7 +4,7 @@ pub mod bytes;
 pub mod coupons;
 pub mod curves;
 pub mod deposit;
-mod fields;
+pub mod fields;
 pub mod floating;
 pub mod loan;
 pub mod option_add_on;

@@ -6,16 +6,17 @@ ghost use lib.ListN.{length};
 ghost use Rattle.laws.specs.Tests.{_is_, _below_, first};
 ghost use Rattle.laws.specs.Sums.{sumOf};
 ghost use Rattle.paper.specs.Ladder.{buckets};
+ghost use Rattle.paper.specs.Records.{currencies};
 ghost use Rattle.paper.specs.TurnedDown.{interestAlone};
 ghost use Rattle.paper.specs.Decode.{decodeLoan};
-ghost use Rattle.paper.specs.Book.{placed};
-ghost use Rattle.record.specs.Told.{amountsFrom, loanRead};
+ghost use Rattle.record.specs.Answers.{Body, amountsFrom, loanRead};
 use crate::amounts::Amounts;
 use crate::amounts::amounts_at;
 use crate::bytes::four_at;
 use crate::fields::Field;
-use crate::fields::currency_at;
 use crate::fields::share_at;
+use paper::BUCKETS;
+use paper::Fault;
 use paper::Refusal;
 
 pub struct Loan {
@@ -25,7 +26,7 @@ pub struct Loan {
 
 pub enum DecodedLoan {
     Is(Loan),
-    Refused(Refusal),
+    Refused(Fault),
 }
 
 fn alone(interest: u32, scheduled: u64) -> bool
@@ -45,37 +46,44 @@ fn interest_alone(body: &[u8], principal: u64) -> usize
 {
     let mut scheduled = principal;
     let mut k: usize = 0;
-    while k < 19 {
+    while k < BUCKETS {
         if alone(four_at(body, 79 + 4 * k), scheduled) {
             return k;
         }
         scheduled -= four_at(body, 3 + 4 * k) as u64;
         k += 1;
     }
-    19
+    BUCKETS
 }
 
-pub fn decode_loan(body: &[u8]) -> DecodedLoan
-    requires { ⌜ length (now body) ≡ 155 ⌝ }
-    ensures { λ r. ⌜ loanRead (now (body .entry)) r ≡ placed 0 (decodeLoan (now (body .entry))) ⌝ }
+pub fn decode_loan(currency: u32, body: &[u8]) -> DecodedLoan
+    requires { ⌜ Body 155 currency (now body) ⌝ }
+    ensures { λ r. ⌜ loanRead (now (body .entry)) r ≡ decodeLoan currencies (now (body .entry)) ⌝ }
 {
-    let Field::Value(currency) = currency_at(body, 0) else {
-        return DecodedLoan::Refused(Refusal::BadCurrency);
+    let read = share_at(body, 1);
+    let Field::Value(share) = read else {
+        return DecodedLoan::Refused(read.fault());
     };
-    let Field::Value(share) = share_at(body, 1) else {
-        return DecodedLoan::Refused(Refusal::BadShare);
+    let read = amounts_at(body, 3);
+    let Amounts::Sum(principal) = read else {
+        return DecodedLoan::Refused(read.fault());
     };
-    let Amounts::Sum(principal) = amounts_at(body, 3) else {
-        return DecodedLoan::Refused(Refusal::TooLarge);
+    let read = amounts_at(body, 79);
+    let Amounts::Sum(interest) = read else {
+        return DecodedLoan::Refused(read.fault());
     };
-    let Amounts::Sum(interest) = amounts_at(body, 79) else {
-        return DecodedLoan::Refused(Refusal::TooLarge);
-    };
-    if interest_alone(body, principal) < 19 {
-        return DecodedLoan::Refused(Refusal::InterestAlone);
+    let bare = interest_alone(body, principal);
+    if bare < BUCKETS {
+        return DecodedLoan::Refused(Fault {
+            cause: Refusal::InterestAlone,
+            place: 80 + 4 * bare,
+        });
     }
     if 1000000000 < principal + interest {
-        return DecodedLoan::Refused(Refusal::OverLimit);
+        return DecodedLoan::Refused(Fault {
+            cause: Refusal::OverLimit,
+            place: 0,
+        });
     }
     DecodedLoan::Is(Loan { currency, share })
 }

@@ -1,15 +1,13 @@
 // Kind 7, an option add-on: currency, side (1 sold, 2 bought), six signed values, one for each scenario.
 ghost use mathlib.Core.Path.{_≡_};
-ghost use lib.ListN.{length};
+ghost use Rattle.paper.specs.Records.{currencies};
 ghost use Rattle.paper.specs.Decode.{decodeOption};
-ghost use Rattle.paper.specs.Book.{placed};
-ghost use Rattle.record.specs.Told.{optionRead};
+ghost use Rattle.record.specs.Answers.{Body, optionRead};
 use crate::fields::Field;
 use crate::fields::SignedField;
-use crate::fields::currency_at;
 use crate::fields::option_at;
 use crate::fields::side_at;
-use paper::Refusal;
+use paper::Fault;
 
 pub struct OptionAddOn {
     pub currency: u32,
@@ -24,36 +22,40 @@ pub struct OptionAddOn {
 
 pub enum DecodedOption {
     Is(OptionAddOn),
-    Refused(Refusal),
+    Refused(Fault),
 }
 
-pub fn decode_option(body: &[u8]) -> DecodedOption
-    requires { ⌜ length (now body) ≡ 26 ⌝ }
-    ensures { λ r. ⌜ optionRead r ≡ placed 0 (decodeOption (now (body .entry))) ⌝ }
+pub fn decode_option(currency: u32, body: &[u8]) -> DecodedOption
+    requires { ⌜ Body 26 currency (now body) ⌝ }
+    ensures { λ r. ⌜ optionRead r ≡ decodeOption currencies (now (body .entry)) ⌝ }
 {
-    let Field::Value(currency) = currency_at(body, 0) else {
-        return DecodedOption::Refused(Refusal::BadCurrency);
+    let read = side_at(body, 1);
+    let Field::Value(side) = read else {
+        return DecodedOption::Refused(read.fault());
     };
-    let Field::Value(side) = side_at(body, 1) else {
-        return DecodedOption::Refused(Refusal::BadSide);
+    let read = option_at(body, 2);
+    let SignedField::Value(up) = read else {
+        return DecodedOption::Refused(read.fault());
     };
-    let SignedField::Value(up) = option_at(body, 2) else {
-        return DecodedOption::Refused(Refusal::TooLarge);
+    let read = option_at(body, 6);
+    let SignedField::Value(down) = read else {
+        return DecodedOption::Refused(read.fault());
     };
-    let SignedField::Value(down) = option_at(body, 6) else {
-        return DecodedOption::Refused(Refusal::TooLarge);
+    let read = option_at(body, 10);
+    let SignedField::Value(steepener) = read else {
+        return DecodedOption::Refused(read.fault());
     };
-    let SignedField::Value(steepener) = option_at(body, 10) else {
-        return DecodedOption::Refused(Refusal::TooLarge);
+    let read = option_at(body, 14);
+    let SignedField::Value(flattener) = read else {
+        return DecodedOption::Refused(read.fault());
     };
-    let SignedField::Value(flattener) = option_at(body, 14) else {
-        return DecodedOption::Refused(Refusal::TooLarge);
+    let read = option_at(body, 18);
+    let SignedField::Value(short_up) = read else {
+        return DecodedOption::Refused(read.fault());
     };
-    let SignedField::Value(short_up) = option_at(body, 18) else {
-        return DecodedOption::Refused(Refusal::TooLarge);
-    };
-    let SignedField::Value(short_down) = option_at(body, 22) else {
-        return DecodedOption::Refused(Refusal::TooLarge);
+    let read = option_at(body, 22);
+    let SignedField::Value(short_down) = read else {
+        return DecodedOption::Refused(read.fault());
     };
     DecodedOption::Is(OptionAddOn {
         currency,

@@ -1,16 +1,14 @@
 // Kind 1, a single flow: currency, side, months (2), days (1), amount.
 ghost use mathlib.Core.Path.{_≡_};
-ghost use lib.ListN.{length};
+ghost use Rattle.paper.specs.Records.{currencies};
 ghost use Rattle.paper.specs.Decode.{decodeSingle};
-ghost use Rattle.paper.specs.Book.{placed};
-ghost use Rattle.record.specs.Told.{singleRead};
+ghost use Rattle.record.specs.Answers.{Body, singleRead};
 use crate::fields::Field;
 use crate::fields::amount_at;
-use crate::fields::currency_at;
 use crate::fields::days_at;
 use crate::fields::months_at;
 use crate::fields::side_at;
-use paper::Refusal;
+use paper::Fault;
 
 pub struct Single {
     pub currency: u32,
@@ -22,27 +20,28 @@ pub struct Single {
 
 pub enum DecodedSingle {
     Is(Single),
-    Refused(Refusal),
+    Refused(Fault),
 }
 
-pub fn decode_single(body: &[u8]) -> DecodedSingle
-    requires { ⌜ length (now body) ≡ 9 ⌝ }
-    ensures { λ r. ⌜ singleRead r ≡ placed 0 (decodeSingle (now (body .entry))) ⌝ }
+pub fn decode_single(currency: u32, body: &[u8]) -> DecodedSingle
+    requires { ⌜ Body 9 currency (now body) ⌝ }
+    ensures { λ r. ⌜ singleRead r ≡ decodeSingle currencies (now (body .entry)) ⌝ }
 {
-    let Field::Value(currency) = currency_at(body, 0) else {
-        return DecodedSingle::Refused(Refusal::BadCurrency);
+    let read = side_at(body, 1);
+    let Field::Value(side) = read else {
+        return DecodedSingle::Refused(read.fault());
     };
-    let Field::Value(side) = side_at(body, 1) else {
-        return DecodedSingle::Refused(Refusal::BadSide);
+    let read = months_at(body, 2);
+    let Field::Value(months) = read else {
+        return DecodedSingle::Refused(read.fault());
     };
-    let Field::Value(months) = months_at(body, 2) else {
-        return DecodedSingle::Refused(Refusal::BadTerm);
+    let read = days_at(body, 4);
+    let Field::Value(days) = read else {
+        return DecodedSingle::Refused(read.fault());
     };
-    let Field::Value(days) = days_at(body, 4) else {
-        return DecodedSingle::Refused(Refusal::BadTerm);
-    };
-    let Field::Value(amount) = amount_at(body, 5) else {
-        return DecodedSingle::Refused(Refusal::TooLarge);
+    let read = amount_at(body, 5);
+    let Field::Value(amount) = read else {
+        return DecodedSingle::Refused(read.fault());
     };
     DecodedSingle::Is(Single {
         currency,

@@ -1,9 +1,11 @@
 -- a record let in by 14, and one that is not
-pub mod Entered
+pub mod Flows
 -- kind 7
 pub mod Options
--- kind 6
-pub mod Deposited
+-- kind 8
+pub mod Rates
+-- kinds 4 and 6
+pub mod DepositRows
 -- a row of nineteen for each scenario
 pub mod Rows
 -- kind 2

@@ -10,8 +10,8 @@ use mir.Facts.{toZ-ofZ}
 use mir.Syntax.{w64}
 use mir.Val.{toZ, ofZ}
 use Rattle.laws.specs.Lists.{tabulate}
-use Rattle.laws.proofs.Fits.{sfits-abs}
-use Rattle.laws.proofs.Joined.{joined-ext}
+use Rattle.laws.proofs.Widths.{sfits-abs}
+use Rattle.laws.proofs.Joins.{joined-ext}
 use Rattle.laws.proofs.Lists.{tabulate-at}
 use Rattle.laws.proofs.Tests.{lt-or-ge}
 use Rattle.paper.specs.Scales.{billion}
@@ -21,7 +21,7 @@ use Rattle.paper.specs.Sound.{Listed, Small}
 use Rattle.arrays.specs.Slots.{plusℤ, withAddOns}
 use Rattle.posting.specs.Parts.{AtMostℤ}
 use Rattle.paper.proofs.Magnitudes.{abs-sided}
-use Rattle.slotting.specs.Parts.{optionMagnitude}
+use Rattle.arrays.specs.Slots.{optionMagnitude}
 
 pub values-small : (values : List ℤ) → Listed Small 6 values → AtMostℤ billion values
 values-small values h j =

@@ -21,7 +21,7 @@ use Rattle.paper.specs.TurnedDown.{interestAlone}
 use Rattle.paper.proofs.Loan.{taken-so-far, on-schedule, interest-at-most}
 use Rattle.paper.specs.Sound.{SoundFlows}
 use Rattle.slotting.specs.Parts.{SoundSchedule}
-use Rattle.slotting.proofs.Entered.{amounts-small}
+use Rattle.slotting.proofs.Flows.{amounts-small}
 
 -- where interest is due, something is scheduled
 pub not-alone : (scheduled remaining : ℕ) → (0 below scheduled && remaining is 0) ≡ false → 0 < scheduled → 0 < remaining

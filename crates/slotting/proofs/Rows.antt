@@ -13,15 +13,16 @@ use Rattle.laws.proofs.Tests.{all-at}
 use Rattle.laws.proofs.Lists.{tabulate-length, tabulate-at, tabulate-is}
 use Rattle.laws.proofs.Sections.{length-section, length-splice}
 use Rattle.paper.specs.Ladder.{buckets}
+use Rattle.paper.specs.Refusals.{Checked, accepted}
 use Rattle.paper.specs.Records.{Record}
 use Rattle.paper.specs.Flow.{scenarios, sided, flow, magnitude}
 use Rattle.paper.specs.Ledger.{sectionSize}
-use Rattle.posting.specs.declared.Slotted.{Slotted}
+use Rattle.posting.specs.declared.Taken.{Taken}
 use Rattle.posting.specs.Parts.{AtMost, FlowParts, Entered}
-use Rattle.laws.proofs.Filled.{Filled, filled-none, filled-part}
+use Rattle.laws.proofs.Filling.{Filled, filled-none, filled-part}
 use Rattle.posting.proofs.Loops.{tabulate-all}
-use Rattle.slotting.specs.Parts.{FlowsSlotted}
-use Rattle.slotting.proofs.Entered.{entered-slotted}
+use Rattle.slotting.specs.Answers.{FlowsTaken}
+use Rattle.slotting.proofs.Flows.{entered-taken}
 
 -- by the place in a section
 abbrev pub byPlace : (ℕ → ℕ → ℕ) → ℕ → ℕ
@@ -67,19 +68,19 @@ row-small f n b e h = subst (AtMost b) (sym e) (tabulate-all (λ x. x ≤ b) f n
 pub row-at : (f : ℕ → ℕ) (n : ℕ) {l : List ℕ} → l ≡ tabulate f n → (k : ℕ) → k < n → getD l k 0 ≡ f k
 row-at f n e k o = ap (λ (m : List ℕ). getD m k 0) e ∙ tabulate-at f n k 0 o
 
-module _ (r : Record) (side : ℕ) {section section' : List ℤ} {sizes sizes' l : List ℕ} {answer : Slotted} (parts : FlowParts section sizes) where
-  pub row-slotted : (f : ℕ → ℕ) (size : ℕ) → l ≡ tabulate f buckets → ((i k : ℕ) → sided side (pos (f k)) ≡ flow r i k) → ((i : ℕ) → magnitude r i ≡ size)
-      → Entered (λ j. getD l (j % buckets) 0) side (λ i. size) section sizes answer section' sizes' → FlowsSlotted r section sizes answer section' sizes'
-  row-slotted f size e flows-are sized =
-      entered-slotted r _ side _ parts
+module _ (r : Record) {read : Checked Record} (accepts : read ≡ accepted r) (side : ℕ) {section section' : List ℤ} {sizes sizes' l : List ℕ} {answer : Taken} (parts : FlowParts section sizes) where
+  pub row-taken : (f : ℕ → ℕ) (size : ℕ) → l ≡ tabulate f buckets → ((i k : ℕ) → sided side (pos (f k)) ≡ flow r i k) → ((i : ℕ) → magnitude r i ≡ size)
+      → Entered (λ j. getD l (j % buckets) 0) side (λ i. size) section sizes answer section' sizes' → FlowsTaken read section sizes answer section' sizes'
+  row-taken f size e flows-are sized =
+      entered-taken r accepts _ side _ parts
       (λ j o. ap (λ (n : ℕ). sided side (pos n)) (row-at f buckets e (j % buckets) (omega arith)) ∙ flows-are (j / buckets) (j % buckets))
       (λ i o. sym (sized i))
 
-  pub rows-slotted : (row : ℕ → ℕ → ℕ) (more : ℕ → ℕ) → l ≡ tabulate (byPlace row) sectionSize → ((i k : ℕ) → sided side (pos (row i k)) ≡ flow r i k)
+  pub rows-taken : (row : ℕ → ℕ → ℕ) (more : ℕ → ℕ) → l ≡ tabulate (byPlace row) sectionSize → ((i k : ℕ) → sided side (pos (row i k)) ≡ flow r i k)
       → ((i : ℕ) → i < scenarios → more i ≡ magnitude r i) → Entered (λ j. getD l j 0) side more section sizes answer section' sizes'
-      → FlowsSlotted r section sizes answer section' sizes'
-  rows-slotted row more e flows-are sized =
-      entered-slotted r _ side more parts
+      → FlowsTaken read section sizes answer section' sizes'
+  rows-taken row more e flows-are sized =
+      entered-taken r accepts _ side more parts
       (λ j o. ap (λ (n : ℕ). sided side (pos n)) (row-at (byPlace row) sectionSize e j o) ∙ flows-are (j / buckets) (j % buckets))
       sized
 

@@ -1,2 +1,2 @@
-pub mod Meant
+pub mod Answers
 pub mod Parts

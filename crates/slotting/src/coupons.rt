@@ -6,19 +6,21 @@ ghost use lib.ListN.{length};
 ghost use Rattle.laws.specs.Lists.{tabulate};
 ghost use Rattle.paper.specs.Scales.{billion};
 ghost use Rattle.paper.specs.Ladder.{buckets, inMonths};
-ghost use Rattle.paper.specs.Records.{flows};
+ghost use Rattle.paper.specs.Records.{currencies};
 ghost use Rattle.paper.specs.Flow.{due, couponsDue};
-ghost use Rattle.paper.specs.Sound.{SoundFlows};
+ghost use Rattle.paper.specs.Decode.{decodeCoupons};
+ghost use Rattle.record.specs.Answers.{Body};
 ghost use Rattle.posting.specs.Parts.{FlowParts};
-ghost use Rattle.slotting.specs.Meant.{couponsOf};
-ghost use Rattle.slotting.specs.Parts.{FlowsSlotted};
+ghost use Rattle.slotting.specs.Answers.{FlowsTaken};
 use ladder::bucket_of;
-use posting::Slotted;
+use paper::BUCKETS;
+use posting::Taken;
 use posting::flows::enter_row;
-use record::coupons::Coupons;
+use record::coupons::DecodedCoupons;
+use record::coupons::decode_coupons;
 
 // The months by which buckets 1 to 19 end. Bucket 1 ends before the first month, and no coupon of kind 2 is past month 600.
-const MONTH_ENDS: [u32; 19] = [
+const MONTH_ENDS: [u32; BUCKETS] = [
     0,
     1,
     3,
@@ -58,7 +60,7 @@ fn coupon_row(period: u32, count: u32, coupon: u32, principal: u32, row: &mut [u
     let ends = MONTH_ENDS;
     let mut before: u32 = 0;
     let mut k: usize = 0;
-    while k < 19 {
+    while k < BUCKETS {
         let by = due_by(ends[k], period, count);
         row[k] = ((by - before) as u64) * (coupon as u64);
         before = by;
@@ -68,19 +70,24 @@ fn coupon_row(period: u32, count: u32, coupon: u32, principal: u32, row: &mut [u
     row[last] += principal as u64;
 }
 
-pub fn slot_coupons(fields: Coupons, section: &mut [i64], sizes: &mut [u64]) -> Slotted
-    requires { ⌜ SoundFlows (couponsOf fields) ⌝ }
+pub fn take_coupons(currency: u32, body: &[u8], section: &mut [i64], sizes: &mut [u64]) -> Taken
+    requires { ⌜ Body 13 currency (now body) ⌝ }
     requires { ⌜ FlowParts (now section) (now sizes) ⌝ }
-    ensures { λ r. ⌜ FlowsSlotted (flows (fields .currency) (couponsOf fields)) (now (section .entry)) (now (sizes .entry)) r (now (section .exit)) (now (sizes .exit)) ⌝ }
+    ensures { λ r. ⌜ FlowsTaken (decodeCoupons currencies (now (body .entry))) (now (section .entry)) (now (sizes .entry)) r (now (section .exit)) (now (sizes .exit)) ⌝ }
 {
-    let size = (fields.count as u64) * (fields.coupon as u64) + fields.principal as u64;
-    let mut row = [0u64; 19];
-    coupon_row(
-        fields.period,
-        fields.count,
-        fields.coupon,
-        fields.principal,
-        &mut row,
-    );
-    enter_row(&row, fields.side, size, section, sizes)
+    match decode_coupons(currency, body) {
+        DecodedCoupons::Refused(fault) => Taken::Refused(fault),
+        DecodedCoupons::Is(bond) => {
+            let size = (bond.count as u64) * (bond.coupon as u64) + bond.principal as u64;
+            let mut row = [0u64; BUCKETS];
+            coupon_row(
+                bond.period,
+                bond.count,
+                bond.coupon,
+                bond.principal,
+                &mut row,
+            );
+            enter_row(&row, bond.side, size, section, sizes)
+        }
+    }
 }

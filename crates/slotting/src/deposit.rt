@@ -6,18 +6,19 @@ ghost use Rattle.laws.specs.Sums.{sumOf};
 ghost use Rattle.laws.specs.Lists.{tabulate};
 ghost use Rattle.paper.specs.Scales.{billion};
 ghost use Rattle.paper.specs.Ladder.{buckets};
-ghost use Rattle.paper.specs.Records.{flows};
+ghost use Rattle.paper.specs.Records.{currencies};
 ghost use Rattle.paper.specs.Behaviour.{depositFlow};
-ghost use Rattle.paper.specs.Sound.{SoundFlows};
-ghost use Rattle.record.specs.Told.{amountsFrom};
+ghost use Rattle.paper.specs.Decode.{decodeDeposit};
+ghost use Rattle.record.specs.Answers.{Body, amountsFrom};
 ghost use Rattle.posting.specs.Parts.{AtMost, FlowParts};
-ghost use Rattle.slotting.specs.Meant.{depositOf};
-ghost use Rattle.slotting.specs.Parts.{FlowsSlotted};
-use posting::Slotted;
+ghost use Rattle.slotting.specs.Answers.{FlowsTaken};
+use paper::BUCKETS;
+use posting::Taken;
 use posting::amounts::amount_of;
 use posting::amounts::sum_from;
 use posting::flows::enter_row;
-use record::deposit::Deposit;
+use record::deposit::DecodedDeposit;
+use record::deposit::decode_deposit;
 
 fn core_row(body: &[u8], total: u64, row: &mut [u64])
     requires { ⌜ (length (now body) ≡ 82) × (total ≤ billion) × (length (now row) ≡ buckets) ⌝ }
@@ -26,20 +27,25 @@ fn core_row(body: &[u8], total: u64, row: &mut [u64])
 {
     let rest = total - sum_from(body, 6);
     let mut k: usize = 0;
-    while k < 19 {
+    while k < BUCKETS {
         row[k] = amount_of(body, 6, k);
         k += 1;
     }
     row[0] += rest;
 }
 
-pub fn slot_deposit(fields: Deposit, body: &[u8], section: &mut [i64], sizes: &mut [u64]) -> Slotted
-    requires { ⌜ (length (now body) ≡ 82) × SoundFlows (depositOf fields (now body)) ⌝ }
+pub fn take_deposit(currency: u32, body: &[u8], section: &mut [i64], sizes: &mut [u64]) -> Taken
+    requires { ⌜ Body 82 currency (now body) ⌝ }
     requires { ⌜ FlowParts (now section) (now sizes) ⌝ }
-    ensures { λ r. ⌜ FlowsSlotted (flows (fields .currency) (depositOf fields (now (body .entry)))) (now (section .entry)) (now (sizes .entry)) r (now (section .exit)) (now (sizes .exit)) ⌝ }
+    ensures { λ r. ⌜ FlowsTaken (decodeDeposit currencies (now (body .entry))) (now (section .entry)) (now (sizes .entry)) r (now (section .exit)) (now (sizes .exit)) ⌝ }
 {
-    let total = fields.total as u64;
-    let mut row = [0u64; 19];
-    core_row(body, total, &mut row);
-    enter_row(&row, 2, total, section, sizes)
+    match decode_deposit(currency, body) {
+        DecodedDeposit::Refused(fault) => Taken::Refused(fault),
+        DecodedDeposit::Is(deposit) => {
+            let total = deposit.total as u64;
+            let mut row = [0u64; BUCKETS];
+            core_row(body, total, &mut row);
+            enter_row(&row, 2, total, section, sizes)
+        }
+    }
 }

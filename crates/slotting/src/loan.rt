@@ -8,21 +8,25 @@ ghost use Rattle.laws.specs.Sums.{sum, sumOf};
 ghost use Rattle.laws.specs.Lists.{tabulate};
 ghost use Rattle.paper.specs.Scales.{billion};
 ghost use Rattle.paper.specs.Ladder.{buckets};
-ghost use Rattle.paper.specs.Records.{flows};
+ghost use Rattle.paper.specs.Records.{currencies};
 ghost use Rattle.paper.specs.Behaviour.{wholeRate, prepaymentRate, paid, prepaid, interest, loanFlow};
 ghost use Rattle.paper.specs.Flow.{scenarios};
 ghost use Rattle.paper.specs.Ledger.{sectionSize};
-ghost use Rattle.paper.specs.Sound.{SoundFlows};
-ghost use Rattle.record.specs.Told.{amountsFrom};
+ghost use Rattle.paper.specs.Decode.{decodeLoan};
+ghost use Rattle.record.specs.Answers.{Body, amountsFrom};
 ghost use Rattle.posting.specs.Parts.{FlowParts};
-ghost use Rattle.slotting.specs.Meant.{loanOf};
-ghost use Rattle.slotting.specs.Parts.{FlowsSlotted, SoundSchedule};
-use posting::Slotted;
+ghost use Rattle.slotting.specs.Answers.{FlowsTaken};
+ghost use Rattle.slotting.specs.Parts.{SoundSchedule};
+use paper::BUCKETS;
+use paper::SCENARIOS;
+use paper::SECTION;
+use posting::Taken;
 use posting::amounts::amount_of;
 use posting::amounts::sum_from;
 use posting::flows::enter;
 use posting::rates::rate_of;
-use record::loan::Loan;
+use record::loan::DecodedLoan;
+use record::loan::decode_loan;
 
 // A bucket's flow, and what is outstanding after it.
 struct Step {
@@ -90,7 +94,7 @@ fn loan_row(body: &[u8], rate: u64, principal: u64, row: &mut [u64]) -> u64
     let mut remaining = principal;
     let mut total: u64 = 0;
     let mut k: usize = 0;
-    while k < 19 {
+    while k < BUCKETS {
         let scheduled = amount_of(body, 3, k);
         let charge = amount_of(body, 79, k);
         let step = bucket_step(rate, scheduled, charge, outstanding, remaining);
@@ -113,22 +117,27 @@ fn loan_flows(body: &[u8], share: u32, flows: &mut [u64], more: &mut [u64])
     let multipliers = [10u32, 8, 12, 8, 12, 8, 12];
     let principal = sum_from(body, 3);
     let mut i: usize = 0;
-    while i < 7 {
+    while i < SCENARIOS {
         let rate = rate_of(share, multipliers[i]);
-        let from = 19 * i;
-        let to = from + 19;
+        let from = BUCKETS * i;
+        let to = from + BUCKETS;
         more[i] = loan_row(body, rate, principal, &mut flows[from..to]);
         i += 1;
     }
 }
 
-pub fn slot_loan(fields: Loan, body: &[u8], section: &mut [i64], sizes: &mut [u64]) -> Slotted
-    requires { ⌜ (length (now body) ≡ 155) × SoundFlows (loanOf fields (now body)) ⌝ }
+pub fn take_loan(currency: u32, body: &[u8], section: &mut [i64], sizes: &mut [u64]) -> Taken
+    requires { ⌜ Body 155 currency (now body) ⌝ }
     requires { ⌜ FlowParts (now section) (now sizes) ⌝ }
-    ensures { λ r. ⌜ FlowsSlotted (flows (fields .currency) (loanOf fields (now (body .entry)))) (now (section .entry)) (now (sizes .entry)) r (now (section .exit)) (now (sizes .exit)) ⌝ }
+    ensures { λ r. ⌜ FlowsTaken (decodeLoan currencies (now (body .entry))) (now (section .entry)) (now (sizes .entry)) r (now (section .exit)) (now (sizes .exit)) ⌝ }
 {
-    let mut flows = [0u64; 133];
-    let mut more = [0u64; 7];
-    loan_flows(body, fields.share, &mut flows, &mut more);
-    enter(&flows, 1, &more, section, sizes)
+    match decode_loan(currency, body) {
+        DecodedLoan::Refused(fault) => Taken::Refused(fault),
+        DecodedLoan::Is(loan) => {
+            let mut flows = [0u64; SECTION];
+            let mut more = [0u64; SCENARIOS];
+            loan_flows(body, loan.share, &mut flows, &mut more);
+            enter(&flows, 1, &more, section, sizes)
+        }
+    }
 }

@@ -1,23 +1,28 @@
 // Kind 7: sold values add to the currency's add-ons, bought ones subtract. They make no flow; 14 has sums of their own for them.
-ghost use Prim.Native.Nat.{_≤_};
+ghost use Prim.Native.Nat.{ℕ, _≤_};
 ghost use mathlib.Core.Path.{_≡_};
 ghost use lib.IntN.{pos, natAbs};
 ghost use lib.ListN.{length, getD};
 ghost use Rattle.laws.specs.Lists.{tabulate};
 ghost use Rattle.paper.specs.Scales.{billion};
-ghost use Rattle.paper.specs.Records.{option};
-ghost use Rattle.paper.specs.Flow.{sided};
-ghost use Rattle.paper.specs.Sound.{Listed, Small};
+ghost use Rattle.paper.specs.Records.{option, currencies};
+ghost use Rattle.paper.specs.Refusals.{accepted};
+ghost use Rattle.paper.specs.Flow.{shocked, sided};
+ghost use Rattle.paper.specs.Decode.{decodeOption};
 ghost use Rattle.arrays.specs.Slots.{plusℤ};
+ghost use Rattle.record.specs.Answers.{Body};
 ghost use Rattle.posting.specs.Parts.{AtMostℤ};
-ghost use Rattle.slotting.specs.Meant.{valuesOf};
-ghost use Rattle.slotting.specs.Parts.{OptionParts, OptionSlotted};
+ghost use Rattle.slotting.specs.Answers.{OptionTaken};
+ghost use Rattle.slotting.specs.Parts.{OptionParts};
 use ladder::Thousands;
-use posting::Slotted;
+use paper::SHOCKED;
+use posting::Taken;
 use posting::cells::add_into;
 use posting::cells::sided;
+use posting::over_limit;
 use posting::room::admits;
-use record::option_add_on::OptionAddOn;
+use record::option_add_on::DecodedOption;
+use record::option_add_on::decode_option;
 use signed::magnitude;
 
 fn magnitudes(values: &[i64], sizes: &mut [u64])
@@ -46,24 +51,37 @@ fn add_values(addons: &mut [i64], side: u32, values: &[i64])
     }
 }
 
-pub fn slot_option(fields: OptionAddOn, sizes: &mut [u64], addons: &mut [i64]) -> Slotted
-    requires { ⌜ Listed Small 6 (valuesOf fields) ⌝ }
+fn slot_values(side: u32, values: &[i64], sizes: &mut [u64], addons: &mut [i64]) -> Taken
+    requires { ⌜ (length (now values) ≡ shocked) × AtMostℤ billion (now values) ⌝ }
     requires { ⌜ OptionParts (now sizes) (now addons) ⌝ }
-    ensures { λ r. ⌜ OptionSlotted (option (fields .currency) (fields .side) (valuesOf fields)) (now (sizes .entry)) (now (addons .entry)) r (now (sizes .exit)) (now (addons .exit)) ⌝ }
+    ensures { λ r. ⌜ ((c : ℕ) → OptionTaken (accepted (option c side (now (values .entry)))) (now (sizes .entry)) (now (addons .entry)) r (now (sizes .exit)) (now (addons .exit))) ⌝ }
 {
-    let values = [
-        fields.up,
-        fields.down,
-        fields.steepener,
-        fields.flattener,
-        fields.short_up,
-        fields.short_down,
-    ];
-    let mut more = [0u64; 6];
-    magnitudes(&values, &mut more);
+    let mut more = [0u64; SHOCKED];
+    magnitudes(values, &mut more);
     if admits(sizes, &more) {
-        add_values(addons, fields.side, &values);
-        return Slotted::Done;
+        add_values(addons, side, values);
+        return Taken::Done;
     }
-    Slotted::OverLimit
+    over_limit()
+}
+
+pub fn take_option(currency: u32, body: &[u8], sizes: &mut [u64], addons: &mut [i64]) -> Taken
+    requires { ⌜ Body 26 currency (now body) ⌝ }
+    requires { ⌜ OptionParts (now sizes) (now addons) ⌝ }
+    ensures { λ r. ⌜ OptionTaken (decodeOption currencies (now (body .entry))) (now (sizes .entry)) (now (addons .entry)) r (now (sizes .exit)) (now (addons .exit)) ⌝ }
+{
+    match decode_option(currency, body) {
+        DecodedOption::Refused(fault) => Taken::Refused(fault),
+        DecodedOption::Is(option) => {
+            let values = [
+                option.up,
+                option.down,
+                option.steepener,
+                option.flattener,
+                option.short_up,
+                option.short_down,
+            ];
+            slot_values(option.side, &values, sizes, addons)
+        }
+    }
 }

@@ -5,20 +5,23 @@ ghost use lib.ListN.{length};
 ghost use Rattle.laws.specs.Lists.{tabulate};
 ghost use Rattle.paper.specs.Scales.{billion};
 ghost use Rattle.paper.specs.Ladder.{buckets};
-ghost use Rattle.paper.specs.Records.{flows};
+ghost use Rattle.paper.specs.Records.{currencies};
 ghost use Rattle.paper.specs.Behaviour.{wholeRate, moved, withdrawalRate, termDepositFlow};
 ghost use Rattle.paper.specs.Ledger.{sectionSize};
-ghost use Rattle.paper.specs.Sound.{SoundFlows};
-ghost use Rattle.record.specs.Told.{amountsFrom};
+ghost use Rattle.paper.specs.Decode.{decodeTermDeposit};
+ghost use Rattle.record.specs.Answers.{Body, amountsFrom};
 ghost use Rattle.posting.specs.Parts.{AtMost, FlowParts};
-ghost use Rattle.slotting.specs.Meant.{termDepositOf};
-ghost use Rattle.slotting.specs.Parts.{FlowsSlotted};
-use posting::Slotted;
+ghost use Rattle.slotting.specs.Answers.{FlowsTaken};
+use paper::BUCKETS;
+use paper::SCENARIOS;
+use paper::SECTION;
+use posting::Taken;
 use posting::amounts::amount_of;
 use posting::amounts::sum_from;
 use posting::flows::enter;
 use posting::rates::rate_of;
-use record::term_deposit::TermDeposit;
+use record::term_deposit::DecodedTermDeposit;
+use record::term_deposit::decode_term_deposit;
 
 fn moved(rate: u64, amount: u64) -> u64
     requires { ⌜ (rate ≤ wholeRate) × (amount ≤ billion) ⌝ }
@@ -35,7 +38,7 @@ fn withdrawn(body: &[u8], rate: u64, row: &mut [u64])
 {
     let mut early: u64 = 0;
     let mut k: usize = 0;
-    while k < 19 {
+    while k < BUCKETS {
         let amount = amount_of(body, 3, k);
         let part = moved(rate, amount);
         row[k] = amount - part;
@@ -53,27 +56,32 @@ fn withdrawn_flows(body: &[u8], share: u32, flows: &mut [u64])
 {
     let multipliers = [10u32, 12, 8, 8, 12, 12, 8];
     let mut i: usize = 0;
-    while i < 7 {
+    while i < SCENARIOS {
         let rate = rate_of(share, multipliers[i]);
-        let from = 19 * i;
-        let to = from + 19;
+        let from = BUCKETS * i;
+        let to = from + BUCKETS;
         withdrawn(body, rate, &mut flows[from..to]);
         i += 1;
     }
 }
 
-pub fn slot_term_deposit(
-    fields: TermDeposit,
+pub fn take_term_deposit(
+    currency: u32,
     body: &[u8],
     section: &mut [i64],
     sizes: &mut [u64],
-) -> Slotted
-    requires { ⌜ (length (now body) ≡ 79) × SoundFlows (termDepositOf fields (now body)) ⌝ }
+) -> Taken
+    requires { ⌜ Body 79 currency (now body) ⌝ }
     requires { ⌜ FlowParts (now section) (now sizes) ⌝ }
-    ensures { λ r. ⌜ FlowsSlotted (flows (fields .currency) (termDepositOf fields (now (body .entry)))) (now (section .entry)) (now (sizes .entry)) r (now (section .exit)) (now (sizes .exit)) ⌝ }
+    ensures { λ r. ⌜ FlowsTaken (decodeTermDeposit currencies (now (body .entry))) (now (section .entry)) (now (sizes .entry)) r (now (section .exit)) (now (sizes .exit)) ⌝ }
 {
-    let more = [sum_from(body, 3); 7];
-    let mut flows = [0u64; 133];
-    withdrawn_flows(body, fields.share, &mut flows);
-    enter(&flows, 2, &more, section, sizes)
+    match decode_term_deposit(currency, body) {
+        DecodedTermDeposit::Refused(fault) => Taken::Refused(fault),
+        DecodedTermDeposit::Is(deposit) => {
+            let more = [sum_from(body, 3); SCENARIOS];
+            let mut flows = [0u64; SECTION];
+            withdrawn_flows(body, deposit.share, &mut flows);
+            enter(&flows, 2, &more, section, sizes)
+        }
+    }
 }

@@ -2,7 +2,10 @@
 use crate::bytes::put_text;
 use crate::lines::put_headed_line;
 use crate::lines::put_line;
-use arrays::has_curve;
+use arrays::masks::has_curve;
+use paper::CHANGES;
+use paper::CURRENCIES;
+use paper::SHOCKED;
 ghost use Prim.Native.Nat.{_+_, _*_, _≤_};
 ghost use mathlib.Core.List.{[], _∷_, _++_};
 ghost use mathlib.Core.Path.{_≡_};
@@ -11,27 +14,23 @@ ghost use Rattle.laws.specs.Tests.{if_then_else_};
 ghost use Rattle.paper.specs.Records.{currencies};
 ghost use Rattle.paper.specs.Ledger.{figures};
 ghost use Rattle.paper.specs.Program.{changesLine, changesLines, verdictWord, reportText};
-ghost use Rattle.arrays.specs.Rooms.{curvedBy};
+ghost use Rattle.arrays.specs.Masks.{curvedBy};
 ghost use Rattle.text.specs.Written.{Wrote};
 
-const CURRENCIES: u32 = 8;
-
-// Where the sums start, the measure and the two numbers after it, and the verdict.
-const SUMS: usize = 6 * CURRENCIES as usize;
-
-const MEASURE: usize = SUMS + 6;
+// Where the measure and the two numbers after it stand, after the changes and the sums, and the verdict.
+const MEASURE: usize = CHANGES + SHOCKED;
 
 const VERDICT: usize = MEASURE + 3;
 
 // C with currency and six changes; no line where the currency has no curve.
 fn put_changes(out: &mut [u8], at: usize, report: &[i64], curved: u32, currency: u32) -> usize
     requires { ⌜ (1 ≤ currency) × (currency ≤ currencies) ⌝ }
-    requires { ⌜ (length (now report) ≡ figures) × (at + 156 ≤ length (now out)) ⌝ }
+    requires { ⌜ (length (now report) ≡ figures currencies) × (at + 156 ≤ length (now out)) ⌝ }
     ensures { λ r. ⌜ Wrote (if curvedBy curved currency then changesLine (now (report .entry)) currency else []) at (now (out .entry)) r (now (out .exit)) ⌝ }
 {
     if has_curve(curved, currency) {
-        let from = 6 * (currency as usize - 1);
-        let to = from + 6;
+        let from = SHOCKED * (currency as usize - 1);
+        let to = from + SHOCKED;
         return put_headed_line(out, at, b'C', currency as u64, &report[from..to]);
     }
     at
@@ -39,11 +38,11 @@ fn put_changes(out: &mut [u8], at: usize, report: &[i64], curved: u32, currency:
 
 // Currency by currency, from the start of the buffer.
 fn put_all_changes(out: &mut [u8], report: &[i64], curved: u32) -> usize
-    requires { ⌜ (length (now report) ≡ figures) × (156 * currencies ≤ length (now out)) ⌝ }
+    requires { ⌜ (length (now report) ≡ figures currencies) × (156 * currencies ≤ length (now out)) ⌝ }
     ensures { λ r. ⌜ Wrote (changesLines (curvedBy curved) (now (report .entry)) currencies) 0 (now (out .entry)) r (now (out .exit)) ⌝ }
 {
     let mut next = 0;
-    for currency in 1..=CURRENCIES {
+    for currency in 1..=CURRENCIES as u32 {
         next = put_changes(out, next, report, curved, currency);
     }
     next
@@ -65,12 +64,12 @@ fn put_verdict(out: &mut [u8], at: usize, verdict: i64) -> usize
 
 // Each line starts where the one before it ends. Answers how many bytes they are; those after them are left as they are.
 pub fn write_report(report: &[i64], curved: u32, out: &mut [u8]) -> usize
-    requires { ⌜ (length (now report) ≡ figures) × (2048 ≤ length (now out)) ⌝ }
-    ensures { λ r. ⌜ (r ≡ length (reportText (curvedBy curved) (now (report .entry)))) × (r ≤ 2048) ⌝ }
-    ensures { λ r. ⌜ now (out .exit) ≡ reportText (curvedBy curved) (now (report .entry)) ++ drop r (now (out .entry)) ⌝ }
+    requires { ⌜ (length (now report) ≡ figures currencies) × (2048 ≤ length (now out)) ⌝ }
+    ensures { λ r. ⌜ (r ≡ length (reportText currencies (curvedBy curved) (now (report .entry)))) × (r ≤ 2048) ⌝ }
+    ensures { λ r. ⌜ now (out .exit) ≡ reportText currencies (curvedBy curved) (now (report .entry)) ++ drop r (now (out .entry)) ⌝ }
 {
     let sums = put_all_changes(out, report, curved);
-    let measure = put_line(out, sums, b'S', &report[SUMS..MEASURE]);
+    let measure = put_line(out, sums, b'S', &report[CHANGES..MEASURE]);
     let verdict = put_line(out, measure, b'M', &report[MEASURE..VERDICT]);
     put_verdict(out, verdict, report[VERDICT])
 }

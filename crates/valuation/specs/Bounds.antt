@@ -5,7 +5,7 @@ use mathlib.Core.Path.{_≡_}
 use lib.IntN.{pos, natAbs}
 use Rattle.paper.specs.Scales.{billion}
 use Rattle.paper.specs.Ladder.{buckets}
-use Rattle.paper.specs.Flow.{scenarios}
+use Rattle.paper.specs.Flow.{scenarios, shocked}
 use Rattle.paper.specs.Records.{currencies}
 use Rattle.paper.specs.Ledger.{Totals}
 use Rattle.paper.specs.Change.{netSize}
@@ -19,12 +19,12 @@ pub record BoundedRow (t : Totals) (c i : ℕ) : Type 0 where
 -- a currency: its rows, and its add-ons
 pub record Bounded (t : Totals) (c : ℕ) : Type 0 where
   pub rows : (i : ℕ) → i < scenarios → BoundedRow t c i
-  pub addOns : (i : ℕ) → 1 ≤ i → i ≤ 6 → natAbs (t .addOn c i) ≤ billion
+  pub addOns : (i : ℕ) → 1 ≤ i → i ≤ shocked → natAbs (t .addOn c i) ≤ billion
 
 -- a currency in which there is nothing
 pub record Nothing (t : Totals) (c : ℕ) : Type 0 where
   pub flows : (i k : ℕ) → i < scenarios → k < buckets → t .cell c i k ≡ pos 0
-  pub addOns : (i : ℕ) → 1 ≤ i → i ≤ 6 → t .addOn c i ≡ pos 0
+  pub addOns : (i : ℕ) → 1 ≤ i → i ≤ shocked → t .addOn c i ≡ pos 0
 
 -- each currency with a curve is bounded, and there is nothing in one without
 pub record Bounds (t : Totals) (curved : ℕ → Bool) : Type 0 where

@@ -5,34 +5,31 @@ ghost use mathlib.Core.List.{[]};
 ghost use Prim.Native.Nat.{ℕ, _+_, _*_, _<_, _≤_};
 ghost use lib.IntN.{natAbs};
 ghost use lib.ListN.{length};
-ghost use Rattle.laws.specs.Lists.{tabulateFrom};
 ghost use Rattle.laws.specs.Nearest.{nearestℤ};
 ghost use Rattle.paper.specs.Scales.{billion};
 ghost use Rattle.paper.specs.Ladder as Ladder;
 ghost use Rattle.paper.specs.Records.{currencies};
-ghost use Rattle.paper.specs.Flow.{scenarios};
-ghost use Rattle.paper.specs.Ledger as Ledger;
-ghost use Rattle.paper.specs.Change.{value, change, netSize, toleranceOf};
+ghost use Rattle.paper.specs.Flow.{scenarios, shocked};
+ghost use Rattle.paper.specs.Ledger.{sectionSize};
+ghost use Rattle.paper.specs.Change.{value, netSize, toleranceOf};
 ghost use Rattle.factor.specs.Table.{rows};
 ghost use Rattle.arrays.specs.Rooms.{totalsBy};
+ghost use Rattle.valuation.specs.Lengths.{FiguresLengths, CurrencyLengths};
 ghost use Rattle.valuation.specs.Bounds.{BoundedRow, Bounded};
-ghost use Rattle.valuation.specs.Figures as Figures;
-ghost use Rattle.valuation.specs.Figures.{withFigures};
+ghost use Rattle.valuation.specs.Figures.{ownChanges, ownTolerances, withChanges, withTolerances};
 use ladder::Exponent;
 use ladder::Millionths;
 use ladder::TenThousandthYears;
 use ladder::Thousands;
+use paper::BUCKETS;
+use paper::SECTION;
+use paper::SHOCKED;
 use signed::magnitude;
 use signed::rounded;
 
-const BUCKETS: usize = 19;
-
-// A currency's cells.
-const SECTION: usize = 7 * BUCKETS;
-
 // The sum of magnitudes of a scenario's net flows.
 fn net_size(cells: &[i64], scenario: usize) -> u64
-    requires { ⌜ (length (now cells) ≡ Ledger.sectionSize) × (scenario < scenarios) ⌝ }
+    requires { ⌜ (length (now cells) ≡ sectionSize) × (scenario < scenarios) ⌝ }
     requires { ⌜ netSize (totalsBy (now cells) [] []) 1 scenario ≤ billion ⌝ }
     ensures { λ r. ⌜ r ≡ netSize (totalsBy (now (cells .entry)) [] []) 1 scenario ⌝ }
 {
@@ -64,7 +61,7 @@ fn value_of(
     midpoints: &[u32],
     table: &[[u64; 10]; 11],
 ) -> i64
-    requires { ⌜ (length (now cells) ≡ Ledger.sectionSize) × (length (now rates) ≡ Ledger.sectionSize) × (scenario < scenarios) ⌝ }
+    requires { ⌜ (length (now cells) ≡ sectionSize) × (length (now rates) ≡ sectionSize) × (scenario < scenarios) ⌝ }
     requires { ⌜ BoundedRow (totalsBy (now cells) [] (now rates)) 1 scenario ⌝ }
     requires { ⌜ (now midpoints ≡ Ladder.midpoints) × (now table ≡ rows) ⌝ }
     ensures { λ r. ⌜ r ≡ value (totalsBy (now (cells .entry)) [] (now (rates .entry))) 1 scenario ⌝ }
@@ -95,13 +92,13 @@ fn fill_changes(
     table: &[[u64; 10]; 11],
     changes: &mut [i64],
 )
-    requires { ⌜ (length (now cells) ≡ Ledger.sectionSize) × (length (now rates) ≡ Ledger.sectionSize) × (length (now «add_ons») ≡ 6) × (length (now changes) ≡ 6) ⌝ }
+    requires { ⌜ CurrencyLengths (now cells) (now rates) (now «add_ons») (now changes) ⌝ }
     requires { ⌜ Bounded (totalsBy (now cells) (now «add_ons») (now rates)) 1 ⌝ }
     requires { ⌜ (now midpoints ≡ Ladder.midpoints) × (now table ≡ rows) ⌝ }
-    ensures { λ _. ⌜ now (changes .exit) ≡ tabulateFrom (change (totalsBy (now (cells .entry)) (now («add_ons» .entry)) (now (rates .entry))) 1) 1 6 ⌝ }
+    ensures { λ _. ⌜ now (changes .exit) ≡ ownChanges (now (cells .entry)) (now («add_ons» .entry)) (now (rates .entry)) ⌝ }
 {
     let base = value_of(cells, rates, 0, midpoints, table);
-    for i in 0..6 {
+    for i in 0..SHOCKED {
         let value = value_of(cells, rates, i + 1, midpoints, table);
         changes[i] = in_thousands(base - value).0 + add_ons[i];
     }
@@ -109,12 +106,12 @@ fn fill_changes(
 
 // The tolerance of each.
 fn fill_tolerances(cells: &[i64], tolerances: &mut [i64])
-    requires { ⌜ (length (now cells) ≡ Ledger.sectionSize) × (length (now tolerances) ≡ 6) ⌝ }
+    requires { ⌜ (length (now cells) ≡ sectionSize) × (length (now tolerances) ≡ shocked) ⌝ }
     requires { ⌜ ((i : ℕ) → i < scenarios → netSize (totalsBy (now cells) [] []) 1 i ≤ billion) ⌝ }
-    ensures { λ _. ⌜ now (tolerances .exit) ≡ tabulateFrom (Figures.tolerances (totalsBy (now (cells .entry)) [] []) 1) 1 6 ⌝ }
+    ensures { λ _. ⌜ now (tolerances .exit) ≡ ownTolerances (now (cells .entry)) ⌝ }
 {
     let base = net_size(cells, 0);
-    for i in 0..6 {
+    for i in 0..SHOCKED {
         tolerances[i] = tolerance_of(base + net_size(cells, i + 1)) as i64;
     }
 }
@@ -130,17 +127,17 @@ pub fn fill_currency(
     changes: &mut [i64],
     tolerances: &mut [i64],
 )
-    requires { ⌜ (length (now ledger) ≡ Ledger.cells) × (length (now rates) ≡ Ledger.cells) × (length (now «add_ons») ≡ 6 * currencies) × (c < currencies) ⌝ }
-    requires { ⌜ (length (now changes) ≡ 6 * currencies) × (length (now tolerances) ≡ 6 * currencies) ⌝ }
+    requires { ⌜ FiguresLengths (now ledger) (now rates) (now «add_ons») (now changes) (now tolerances) ⌝ }
+    requires { ⌜ c < currencies ⌝ }
     requires { ⌜ Bounded (totalsBy (now ledger) (now «add_ons») (now rates)) (c + 1) ⌝ }
     requires { ⌜ (now midpoints ≡ Ladder.midpoints) × (now table ≡ rows) ⌝ }
-    ensures { λ _. ⌜ now (changes .exit) ≡ withFigures (change (totalsBy (now (ledger .entry)) (now («add_ons» .entry)) (now (rates .entry)))) c (now (changes .entry)) ⌝ }
-    ensures { λ _. ⌜ now (tolerances .exit) ≡ withFigures (Figures.tolerances (totalsBy (now (ledger .entry)) (now («add_ons» .entry)) (now (rates .entry)))) c (now (tolerances .entry)) ⌝ }
+    ensures { λ _. ⌜ now (changes .exit) ≡ withChanges (now (ledger .entry)) (now («add_ons» .entry)) (now (rates .entry)) c (now (changes .entry)) ⌝ }
+    ensures { λ _. ⌜ now (tolerances .exit) ≡ withTolerances (now (ledger .entry)) (now («add_ons» .entry)) (now (rates .entry)) c (now (tolerances .entry)) ⌝ }
 {
     let start = SECTION * c;
     let end = start + SECTION;
-    let six = 6 * c;
-    let next = six + 6;
+    let six = SHOCKED * c;
+    let next = six + SHOCKED;
     fill_changes(
         &ledger[start..end],
         &rates[start..end],

@@ -1,24 +1,21 @@
 // From flows to the verdict (01, "From flows to verdict"): the report of the arrays into which a book's records were slotted.
 ghost use mathlib.Core.Path.{_≡_};
-ghost use Prim.Native.Nat.{_+_, _*_, _<_, _≤_};
-ghost use lib.ListN.{length};
+ghost use Prim.Native.Nat.{_≤_};
 ghost use Rattle.paper.specs.Records.{currencies};
-ghost use Rattle.paper.specs.Ledger.{cells, figures};
 ghost use Rattle.paper.specs.Verdict.{reportOf};
 ghost use Rattle.factor.specs.Table.{rows};
-ghost use Rattle.arrays.specs.Rooms.{curvedBy, totalsBy};
+ghost use Rattle.arrays.specs.Masks.{curvedBy};
+ghost use Rattle.arrays.specs.Rooms.{totalsBy};
+ghost use Rattle.valuation.specs.Lengths.{ReportLengths};
 ghost use Rattle.valuation.specs.Bounds.{Bounds};
-use arrays::has_curve;
+use arrays::masks::has_curve;
+use paper::CHANGES;
+use paper::CURRENCIES;
 
 mod change;
 mod measure;
 mod report;
 mod verdict;
-
-const CURRENCIES: usize = 8;
-
-// Six for each currency: changes, or tolerances.
-const FIGURES: usize = 6 * CURRENCIES;
 
 // The report of the ledger, the rates and the add-ons. A currency without a curve has nothing in it and is passed over.
 pub fn fill_report(
@@ -30,14 +27,14 @@ pub fn fill_report(
     table: &[[u64; 10]; 11],
     report: &mut [i64],
 )
-    requires { ⌜ (length (now ledger) ≡ cells) × (length (now rates) ≡ cells) × (length (now «add_ons») ≡ 6 * currencies) × (length (now report) ≡ figures) ⌝ }
+    requires { ⌜ ReportLengths (now ledger) (now rates) (now «add_ons») (now report) ⌝ }
     requires { ⌜ (tier1 ≤ 1_000_000_000_000) × (now table ≡ rows) ⌝ }
     requires { ⌜ Bounds (totalsBy (now ledger) (now «add_ons») (now rates)) (curvedBy curved) ⌝ }
-    ensures { λ _. ⌜ now (report .exit) ≡ reportOf (totalsBy (now (ledger .entry)) (now («add_ons» .entry)) (now (rates .entry))) tier1 ⌝ }
+    ensures { λ _. ⌜ now (report .exit) ≡ reportOf currencies (totalsBy (now (ledger .entry)) (now («add_ons» .entry)) (now (rates .entry))) tier1 ⌝ }
 {
     let midpoints = ladder::midpoints();
-    let mut changes = [0i64; FIGURES];
-    let mut tolerances = [0i64; FIGURES];
+    let mut changes = [0i64; CHANGES];
+    let mut tolerances = [0i64; CHANGES];
     for c in 0..CURRENCIES {
         if has_curve(curved, c as u32 + 1) {
             change::fill_currency(

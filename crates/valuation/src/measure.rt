@@ -3,9 +3,12 @@ ghost use mathlib.Core.Path.{_≡_};
 ghost use Prim.Native.Nat.{_≤_};
 ghost use lib.IntN.{pos};
 ghost use Rattle.laws.specs.Integers.{up};
+ghost use Rattle.paper.specs.Records.{currencies};
+ghost use Rattle.paper.specs.Flow.{shocked};
 ghost use Rattle.paper.specs.Verdict.{listed, scenarioSum, measure, worst};
 ghost use Rattle.valuation.specs.Figures.{Figures};
-use crate::CURRENCIES;
+use paper::CURRENCIES;
+use paper::SHOCKED;
 
 // The loss, with no gain to set against it.
 fn positive(change: i64) -> i64
@@ -16,13 +19,13 @@ fn positive(change: i64) -> i64
 
 // A scenario's sum adds the positive changes over currencies.
 pub fn scenario_sum(changes: &[i64], scenario: usize) -> u64
-    requires { ⌜ (1 ≤ scenario) × (scenario ≤ 6) ⌝ }
+    requires { ⌜ (1 ≤ scenario) × (scenario ≤ shocked) ⌝ }
     requires { ⌜ Figures (now changes) ⌝ }
-    ensures { λ r. ⌜ r ≡ scenarioSum (listed (now (changes .entry))) scenario ⌝ }
+    ensures { λ r. ⌜ r ≡ scenarioSum currencies (listed (now (changes .entry))) scenario ⌝ }
 {
     let mut total: i64 = 0;
     for c in 0..CURRENCIES {
-        total += positive(changes[6 * c + (scenario - 1)]);
+        total += positive(changes[SHOCKED * c + (scenario - 1)]);
     }
     total as u64
 }
@@ -35,12 +38,12 @@ pub struct Greatest {
 
 pub fn greatest_sum(changes: &[i64]) -> Greatest
     requires { ⌜ Figures (now changes) ⌝ }
-    ensures { λ r. ⌜ r .sum ≡ measure (listed (now (changes .entry))) ⌝ }
-    ensures { λ r. ⌜ r .scenario ≡ worst (listed (now (changes .entry))) ⌝ }
+    ensures { λ r. ⌜ r .sum ≡ measure currencies (listed (now (changes .entry))) ⌝ }
+    ensures { λ r. ⌜ r .scenario ≡ worst currencies (listed (now (changes .entry))) ⌝ }
 {
     let mut greatest: u64 = 0;
     let mut reached: u64 = 0;
-    for i in 0..6 {
+    for i in 0..SHOCKED {
         let sum = scenario_sum(changes, i + 1);
         if greatest < sum {
             greatest = sum;

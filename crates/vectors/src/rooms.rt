@@ -20,11 +20,12 @@ pub fn show_lengths() {
 fn room(label: &[u8], report: &mut [i64], ledger: &mut [i64]) {
     let mut out = [0u8; 64];
     let empty = [0u8; 0];
-    let Assessed::Refused(cause, place) = assess(&empty, 1, report, ledger) else {
+    let Assessed::Refused(fault) = assess(&empty, 1, report, ledger) else {
         return;
     };
+    let cause = fault.cause;
     let number = refusal_number(cause) as u64;
-    let count = write_refusal(number, place as u64, &mut out);
+    let count = write_refusal(number, fault.place as u64, &mut out);
     io::write_all(STDOUT_FILENO, label);
     io::write_all(STDOUT_FILENO, &out[0..count]);
 }

@@ -6,7 +6,7 @@ use lib.IntN.{ℤ, pos, negℤ, negsuc, _*ℤ_}
 use mir.Facts.{toZ-ofZ, toZ-pos}
 use mir.Syntax.{w64}
 use mir.Val.{toZ}
-use Rattle.laws.proofs.Fits.{Small, small-pos, small-le, small-neg, small-mul, small-fits}
+use Rattle.laws.proofs.Widths.{Small, small-pos, small-le, small-neg, small-mul, small-fits}
 use Rattle.paper.specs.Curve.{rateChanges}
 use Rattle.curve.proofs.Changes.{steepener, flattener, short-alone, no-change}
 use Rattle.curve.proofs.change.Statement.{statement}

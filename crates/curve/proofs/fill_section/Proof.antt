@@ -1,23 +1,28 @@
 -- `fill_section` meets its contract: the scenarios so far are written.
 use Prim.Native.Nat.{_+_, _*_, _-_, _≤_}
-use mathlib.Core.Path.{_≡_}
+use mathlib.Core.Path.{_≡_, sym, _∙_}
 use native.Mathlib.Omega.{arith}
 use borrow.Author.Needs.{needs}
+use lib.IntN.{pos}
 use Rattle.laws.proofs.Sections.{length-section}
+use Rattle.laws.proofs.Filling.{Rows, rows-next, rows-all}
+use Rattle.paper.specs.Ladder.{buckets}
+use Rattle.paper.specs.Curve.{shockedRate}
+use Rattle.paper.specs.Flow.{scenarios}
+use Rattle.paper.specs.Ledger.{sectionSize}
 use Rattle.curve.specs.Shocked.{curveOf, shockedSection}
-use Rattle.curve.proofs.Filled.{filled-none, filled-all}
-use Rattle.curve.proofs.Sections.{Written, one-more}
 use Rattle.curve.proofs.fill_section.Statement.{statement}
 use Rattle.curve.proofs.fill_section.Tie as tie
 
 abbrev Inv-loop : tie.InvT-loop
-Inv-loop rates shocks section₀ scenario₀ section scenario = (scenario ≤ 7) × Written (curveOf rates shocks) section₀ section (19 * scenario)
+Inv-loop rates shocks section₀ scenario₀ section scenario =
+    (scenario ≤ scenarios) × Rows (pos 0) (shockedRate (curveOf rates shocks)) buckets sectionSize scenario section
 
 abbrev μ-loop : tie.MeasureT-loop
-μ-loop rates shocks section₀ scenario₀ section scenario = 7 - scenario
+μ-loop rates shocks section₀ scenario₀ section scenario = scenarios - scenario
 
 loop-holds : tie.Need-loop-holds Inv-loop μ-loop
-loop-holds c = (omega arith, filled-none)
+loop-holds c = (omega arith, record { long = c .pre .1 .1; filled = λ j h. absurd (omega arith) })
 
 mul-start : tie.Need-mul-start Inv-loop μ-loop
 mul-start c = omega arith
@@ -35,10 +40,10 @@ part-fill-scenario-start : tie.Need-part-fill-scenario-start Inv-loop μ-loop
 part-fill-scenario-start c = omega arith
 
 part-fill-scenario-end : tie.Need-part-fill-scenario-end Inv-loop μ-loop
-part-fill-scenario-end c = omega (arith, c .before .loop .inv .1 .long, c .before .before .pre .1 .1)
+part-fill-scenario-end c = omega (arith, c .before .loop .inv .1 .long)
 
--- the part that is lent has nineteen cells
-width : (c : tie.In-loop Inv-loop μ-loop) → 19 * c .before .loop .scenario + 19 - 19 * c .before .loop .scenario ≡ 19
+-- the part that is lent has a cell for each bucket
+width : (c : tie.In-loop Inv-loop μ-loop) → buckets * c .before .loop .scenario + buckets - buckets * c .before .loop .scenario ≡ buckets
 width c = omega arith
 
 fill-scenario-requires : tie.Need-fill-scenario-requires Inv-loop μ-loop
@@ -48,7 +53,7 @@ fill-scenario-requires c κs =
       (
         l .before .pre .1 .0,
         rw (width (c .before))
-            (length-section (19 * l .loop .scenario) 19 (l .loop .section) (omega (arith, l .loop .inv .1 .long, l .before .pre .1 .1))),
+            (length-section (buckets * l .loop .scenario) buckets (l .loop .section) (omega (arith, l .loop .inv .1 .long))),
       ),
     )
 
@@ -60,22 +65,15 @@ loop-less c = omega arith
 
 loop-again : tie.Need-loop-again Inv-loop μ-loop
 loop-again c =
-    let l = c .before .before .before .before in (
-      omega arith,
-      rw (width (c .before .before .before))
-          (one-more (curveOf (l .before .args .rates .now) (l .before .args .shocks)) _ (omega (arith, l .before .pre .1 .1)) (c .before .fill-scenario .ensures)
-          (l .loop .inv .1)),
-    )
+    let at = c .before .before .before .before .loop in
+    (omega arith, rw (width (c .before .before .before)) (rows-next (pos 0) _ buckets sectionSize (at .scenario) (at .section) _ (omega arith) (c .before .fill-scenario .ensures) (at .inv .1)))
 
 same-length : tie.Need-same-length Inv-loop μ-loop
-same-length c = c .before .loop .inv .1 .long
+same-length c = c .before .loop .inv .1 .long ∙ sym (c .before .before .pre .1 .1)
 
 returns : tie.Need-returns Inv-loop μ-loop
 unfolding shockedSection
-returns c =
-    let l = c .before in
-    let all : l .loop .scenario ≡ 7 = omega arith in
-    filled-all (l .before .pre .1 .1) (rw all at (l .loop .inv .1))
+returns c = let at = c .before .loop in rows-all (pos 0) _ buckets sectionSize (at .scenario) (at .section) (omega arith) (at .inv .1)
 
 pub fill-section-spec : {M : Type 1} → statement M
 fill-section-spec =

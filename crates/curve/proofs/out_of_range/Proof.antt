@@ -8,8 +8,9 @@ use borrow.Author.Count.{below-more}
 use borrow.Author.Needs.{needs}
 use mir.Syntax.{w64}
 use mir.Val.{toZ, ofZ}
-use Rattle.laws.proofs.Fits.{back}
+use Rattle.laws.proofs.Widths.{back}
 use Rattle.paper.specs.Curve.{Curve, shockedRate}
+use Rattle.paper.specs.Flow.{scenarios}
 use Rattle.paper.specs.TurnedDown.{badRate, badShocked}
 use Rattle.curve.specs.Shocked.{curveOf}
 use Rattle.curve.proofs.Rates.{too-low, too-high, in-range, one-bad, none-bad}
@@ -18,10 +19,10 @@ use Rattle.curve.proofs.out_of_range.Tie as tie
 
 abbrev Inv-loop : tie.InvT-loop
 Inv-loop rates shocks shares k scenario₀ scenario =
-    (1 ≤ scenario) × (scenario ≤ 7) × ((i : ℕ) → i < scenario → 1 ≤ i → badRate (shockedRate (curveOf rates shocks) i k) ≡ false)
+    (1 ≤ scenario) × (scenario ≤ scenarios) × ((i : ℕ) → i < scenario → 1 ≤ i → badRate (shockedRate (curveOf rates shocks) i k) ≡ false)
 
 abbrev μ-loop : tie.MeasureT-loop
-μ-loop rates shocks shares k scenario₀ scenario = 7 - scenario
+μ-loop rates shocks shares k scenario₀ scenario = scenarios - scenario
 
 loop-holds : tie.Need-loop-holds Inv-loop μ-loop
 loop-holds c = (omega arith, omega arith, λ i h l. absurd (omega arith))

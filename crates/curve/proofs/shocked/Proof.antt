@@ -6,7 +6,7 @@ use lib.IntN.{ℤ, pos, _+ℤ_}
 use lib.ListN.{getD}
 use mir.Facts.{toZ-ofZ}
 use mir.Syntax.{w64}
-use Rattle.laws.proofs.Fits.{back, sfits-abs}
+use Rattle.laws.proofs.Widths.{back, sfits-abs}
 use Rattle.laws.proofs.Integers.{abs-is, abs-add}
 use Rattle.paper.specs.Curve.{shortShare, shockedRate}
 use Rattle.curve.proofs.Rates.{share-at, share-most}

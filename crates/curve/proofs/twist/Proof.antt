@@ -9,7 +9,7 @@ use mir.Facts.{toZ-ofZ, toZ-pos}
 use mir.Syntax.{w64}
 use mir.Val.{toZ}
 use Rattle.laws.specs.Nearest.{nearestℤ}
-use Rattle.laws.proofs.Fits.{back, sfits-abs}
+use Rattle.laws.proofs.Widths.{back, sfits-abs}
 use Rattle.laws.proofs.Integers.{abs-is, diff-up, diff-down, abs-add}
 use Rattle.laws.proofs.Nearest.{near-le}
 use Rattle.paper.specs.Scales.{billion}

@@ -6,7 +6,7 @@ use lib.IntN.{pos, _*ℤ_}
 use mir.Facts.{toZ-ofZ, toZ-pos}
 use mir.Syntax.{w64}
 use mir.Val.{toZ}
-use Rattle.laws.proofs.Fits.{Small, small-mul, small-pos, small-le, small-fits}
+use Rattle.laws.proofs.Widths.{Small, small-mul, small-pos, small-le, small-fits}
 use Rattle.curve.proofs.weighed.Statement.{statement}
 use Rattle.curve.proofs.weighed.Tie as tie
 

@@ -8,7 +8,7 @@ use mir.Facts.{toZ-ofZ}
 use mir.Syntax.{w64}
 use mir.Val.{toZ, ofZ}
 use Rattle.laws.specs.Integers.{up, down}
-use Rattle.laws.proofs.Fits.{back, sfits-abs}
+use Rattle.laws.proofs.Widths.{back, sfits-abs}
 use Rattle.laws.proofs.Order.{ints, ltZ-true, not-below-zero}
 use Rattle.paper.specs.Factor.{lowStart, lowEnd, factor, InRange}
 use Rattle.paper.proofs.FactorClose.{factor-at-most}

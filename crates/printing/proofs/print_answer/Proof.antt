@@ -5,6 +5,7 @@ use mathlib.Core.Path.{ap, _∙_}
 use native.Mathlib.Omega.{arith}
 use borrow.Rule.Slice.PartAt.{part-to-end}
 use lib.ListN.{drop}
+use Rattle.paper.specs.Records.{currencies}
 use Rattle.paper.specs.Ledger.{cells, figures}
 use Rattle.paper.specs.Book.{outcome}
 use Rattle.paper.specs.Program.{textOf}
@@ -56,8 +57,8 @@ returns-3 c =
     let input = c .before .before .before .before .before .before .before .before .before .before .args .input .now in
     let T = c .before .before .before .before .before .capital-in .ensures in
     stands-as _
-    (ap (λ (book : List ℕ). textOf (outcome book (c .before .before .before .before .before .capital-in .result) figures cells) (c .before .before .before .before .before .capital-in .result)) (part-to-end input 8)
-    ∙ ap (λ (t : ℕ). textOf (outcome (drop 8 input) t figures cells) t) T
+    (ap (λ (book : List ℕ). textOf currencies (outcome currencies book (c .before .before .before .before .before .capital-in .result) (figures currencies) (cells currencies)) (c .before .before .before .before .before .capital-in .result)) (part-to-end input 8)
+    ∙ ap (λ (t : ℕ). textOf currencies (outcome currencies (drop 8 input) t (figures currencies) (cells currencies)) t) T
     ∙ whole-input input (omega arith) (omega arith))
     (omega arith) (c .before .before .print-book .ensures)
 

@@ -24,8 +24,8 @@ slice-aggregate-write-report c = search needs
 write-report-requires : tie.Need-write-report-requires
 write-report-requires c κs = search needs
 
-enum-known-cause : tie.Need-enum-known-cause
-enum-known-cause c = search needs
+enum-known-fault : tie.Need-enum-known-fault
+enum-known-fault c = search needs
 
 refusal-number-requires : tie.Need-refusal-number-requires
 refusal-number-requires c κs = search needs
@@ -50,7 +50,7 @@ same-length-2 c = search needs
 returns-2 : tie.Need-returns-2
 returns-2 c =
     let assessed = c .before .before .before .before .before .before .before .before .before .before in
-    stands-as _ (prints-refusal _ refl refl (assessed .assess .ensures .0) _ _ _ (c .before .before .before .before .before .before .cause .given .1) (c .before .before .before .before .refusal-number .ensures)) (omega arith) (c .before .before .write-refusal .ensures)
+    stands-as _ (prints-refusal _ refl refl (assessed .assess .ensures .0) _ _ (c .before .before .before .before .before .before .fault .given .1) (c .before .before .before .before .refusal-number .ensures)) (omega arith) (c .before .before .write-refusal .ensures)
 
 pub print-book-spec : {M : Type 1} → statement M
 print-book-spec =
@@ -62,7 +62,7 @@ print-book-spec =
     enum-known-curves
     slice-aggregate-write-report
     write-report-requires
-    enum-known-cause
+    enum-known-fault
     refusal-number-requires
     cast-number
     write-refusal-requires

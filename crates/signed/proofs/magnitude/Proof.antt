@@ -1,8 +1,7 @@
 -- Below zero by way of the number after it, and otherwise as it stands.
 use borrow.Author.Needs.{needs}
 use mir.Facts.{toZ-ofZ}
-use Rattle.laws.proofs.Fits.{nonneg-of, test-not-below}
-use Rattle.signed.proofs.Magnitudes.{magnitude-fits, NextNegated, next-negated}
+use Rattle.laws.proofs.Widths.{nonneg-of, test-not-below, magnitude-fits, NextNegated, next-negated}
 use Rattle.signed.proofs.magnitude.Statement.{statement}
 use Rattle.signed.proofs.magnitude.Tie as tie
 use Rattle.signed.proofs.magnitude.Reads as reads

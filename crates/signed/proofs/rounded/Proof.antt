@@ -10,7 +10,7 @@ use borrow.Author.Needs.{needs}
 use Rattle.laws.specs.Integers.{up, down}
 use Rattle.laws.specs.Nearest.{nearestℤ}
 use Rattle.laws.proofs.Integers.{abs-add, abs-sub}
-use Rattle.laws.proofs.Fits.{sfits-abs, quot-fits, test-below, test-not-below}
+use Rattle.laws.proofs.Widths.{sfits-abs, quot-fits, test-below, test-not-below}
 use Rattle.laws.proofs.Nearest.{quot-above, quot-below}
 use Rattle.paper.specs.Scales.{billion}
 use Rattle.signed.proofs.rounded.Statement.{statement}

@@ -7,9 +7,10 @@ use native.Mathlib.Omega.{arith}
 use borrow.Author.Needs.{needs}
 use Rattle.paper.specs.Records.{currencies}
 use Rattle.paper.specs.Ledger.{Totals}
-use Rattle.arrays.specs.Rooms.{curvedBy, totalsBy}
+use Rattle.arrays.specs.Masks.{curvedBy}
+use Rattle.arrays.specs.Rooms.{totalsBy}
 use Rattle.valuation.specs.Bounds.{Bounds}
-use Rattle.valuation.proofs.Done.{Done, done-none, changes-long, tolerances-long, done-more, done-skip, change-figures, tolerance-figures, report-done}
+use Rattle.valuation.proofs.Progress.{Done, done-none, done-more, done-skip, change-figures, tolerance-figures, report-done}
 use Rattle.valuation.proofs.fill_report.Statement.{statement}
 use Rattle.valuation.proofs.fill_report.Tie as tie
 
@@ -52,10 +53,10 @@ slice-aggregate-fill-currency : tie.Need-slice-aggregate-fill-currency Inv-loop 
 slice-aggregate-fill-currency c = search needs
 
 slice-aggregate-fill-currency-2 : tie.Need-slice-aggregate-fill-currency-2 Inv-loop μ-loop
-slice-aggregate-fill-currency-2 c = sym (changes-long (c .before .before .before .before .before .loop .inv .1))
+slice-aggregate-fill-currency-2 c = sym (c .before .before .before .before .before .loop .inv .1 .changes-in .rows .long)
 
 slice-aggregate-fill-currency-3 : tie.Need-slice-aggregate-fill-currency-3 Inv-loop μ-loop
-slice-aggregate-fill-currency-3 c = sym (tolerances-long (c .before .before .before .before .before .before .loop .inv .1))
+slice-aggregate-fill-currency-3 c = sym (c .before .before .before .before .before .before .loop .inv .1 .tolerances-in .rows .long)
 
 fill-currency-requires : tie.Need-fill-currency-requires Inv-loop μ-loop
 fill-currency-requires c κs =
@@ -64,9 +65,15 @@ fill-currency-requires c κs =
     let s = at .before .before in
     let n = at .loop .c in
     let curve = sym (b .before .has-curve .ensures) ∙ b .if1 .taken in (
-      (search needs, search needs, search needs, omega arith),
+      record {
+        ledger-long = search needs;
+        rates-long = search needs;
+        addOns-long = search needs;
+        changes-long = at .loop .inv .1 .changes-in .rows .long;
+        tolerances-long = at .loop .inv .1 .tolerances-in .rows .long;
+      },
       (
-        (changes-long (at .loop .inv .1), tolerances-long (at .loop .inv .1)),
+        omega arith,
         (bounds s .bounded (n + 1) (omega arith) (omega arith) curve, (at .before .midpoints .ensures, s .pre .1 .0 .1)),
       ),
     )
@@ -86,16 +93,16 @@ loop-again c =
     let tested = sym (c .before .has-curve .ensures) in (
       omega arith,
       ⊎-elim
-          (λ w. done-more d (omega arith) (w .7 ∙ w .4 .ensures .0) (w .8 ∙ w .4 .ensures .1))
-          (λ w. rw (w .1, w .2) (done-skip d (omega arith) (bounds s .nothing (n + 1) (omega arith) (omega arith) (tested ∙ w .0 .left))))
+          (λ w. done-more (omega arith) d (w .7 ∙ w .4 .ensures .0) (w .8 ∙ w .4 .ensures .1))
+          (λ w. rw (w .1, w .2) (done-skip (omega arith) d (bounds s .nothing (n + 1) (omega arith) (omega arith) (tested ∙ w .0 .left))))
           (c .if1 .came),
     )
 
 slice-aggregate-write-report : tie.Need-slice-aggregate-write-report Inv-loop μ-loop
-slice-aggregate-write-report c = sym (changes-long (c .before .before .loop .inv .1))
+slice-aggregate-write-report c = sym (c .before .before .loop .inv .1 .changes-in .rows .long)
 
 slice-aggregate-write-report-2 : tie.Need-slice-aggregate-write-report-2 Inv-loop μ-loop
-slice-aggregate-write-report-2 c = sym (tolerances-long (c .before .before .before .loop .inv .1))
+slice-aggregate-write-report-2 c = sym (c .before .before .before .loop .inv .1 .tolerances-in .rows .long)
 
 write-report-requires : tie.Need-write-report-requires Inv-loop μ-loop
 write-report-requires c κs =

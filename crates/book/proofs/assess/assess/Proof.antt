@@ -2,8 +2,10 @@
 use mathlib.Core.Path.{sym, _∙_}
 use native.Mathlib.Omega.{arith}
 use lib.Seq.{length-take-le}
+use Rattle.paper.specs.Records.{currencies}
+use Rattle.paper.specs.Ledger.{cells, figures}
 use Rattle.book.proofs.Truth.{promised}
-use Rattle.book.proofs.Answering.{room-refused, room-enough, book-refused, capital-refused, capital-fits, by-records}
+use Rattle.book.proofs.Outcome.{room-refused, room-enough, book-refused, capital-refused, capital-fits, by-records}
 use borrow.Author.Needs.{needs}
 use Rattle.book.proofs.assess.assess.Statement.{statement}
 use Rattle.book.proofs.assess.assess.Tie as tie
@@ -11,22 +13,31 @@ use Rattle.book.proofs.assess.assess.Tie as tie
 room-too-small-requires : tie.Need-room-too-small-requires
 room-too-small-requires c κs = search needs
 
+refused-requires : tie.Need-refused-requires
+refused-requires c κs = search needs
+
 returns : tie.Need-returns
-returns c = promised (room-refused _ _ _ _ (sym (c .before .room-too-small .ensures) ∙ c .if1 .taken))
+returns c = rw (c .refused .ensures) (promised (room-refused _ _ _ _ (sym (c .before .before .room-too-small .ensures) ∙ c .before .if1 .taken)))
+
+refused-requires-2 : tie.Need-refused-requires-2
+refused-requires-2 c κs = search needs
 
 returns-2 : tie.Need-returns-2
 returns-2 c =
-    let rooms = c .before in
-    promised (book-refused _ _ _ _ (sym (rooms .before .room-too-small .ensures) ∙ rooms .if1 .left) (omega arith))
+    let rooms = c .before .before in
+    rw (c .refused2 .ensures) (promised (book-refused _ _ _ _ (sym (rooms .before .room-too-small .ensures) ∙ rooms .if1 .left) (c .before .if2 .taken)))
 
 bad-capital-requires : tie.Need-bad-capital-requires
 bad-capital-requires c κs = search needs
 
+refused-requires-3 : tie.Need-refused-requires-3
+refused-requires-3 c κs = search needs
+
 returns-3 : tie.Need-returns-3
 returns-3 c =
-    let capital = c .before in
+    let capital = c .before .before in
     let rooms = capital .before .before in
-    promised (capital-refused _ _ _ _ (sym (rooms .before .room-too-small .ensures) ∙ rooms .if1 .left) (omega arith) (sym (capital .bad-capital .ensures) ∙ c .if3 .taken))
+    rw (c .refused3 .ensures) (promised (capital-refused _ _ _ _ (sym (rooms .before .room-too-small .ensures) ∙ rooms .if1 .left) (omega arith) (sym (capital .bad-capital .ensures) ∙ c .before .if3 .taken)))
 
 sub-assess-records : tie.Need-sub-assess-records
 sub-assess-records c = search needs
@@ -52,7 +63,7 @@ assess-records-requires c κs =
     let rooms = capital .before .before in
     let start = rooms .before .before .before in
     let long = room-enough _ _ (sym (rooms .before .room-too-small .ensures) ∙ rooms .if1 .left) in
-    (capital-fits _ (sym (capital .bad-capital .ensures) ∙ c .before .before .if3 .left), (length-take-le 58 (start .args .report .now) (long .0), length-take-le 1064 (start .args .ledger .now) (long .1)))
+    (capital-fits _ (sym (capital .bad-capital .ensures) ∙ c .before .before .if3 .left), (length-take-le (figures currencies) (start .args .report .now) (long .0), length-take-le (cells currencies) (start .args .ledger .now) (long .1)))
 
 same-length : tie.Need-same-length
 same-length c = search needs
@@ -71,9 +82,12 @@ assess-spec =
     tie.close
     (tie.spec
     room-too-small-requires
+    refused-requires
     returns
+    refused-requires-2
     returns-2
     bad-capital-requires
+    refused-requires-3
     returns-3
     sub-assess-records
     part-assess-records-start

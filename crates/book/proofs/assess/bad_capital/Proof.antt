@@ -1,7 +1,7 @@
 -- `bad_capital`: 16 has two ends.
 use mathlib.Core.Path.{sym}
 use native.Mathlib.Omega.{arith}
-use Rattle.book.proofs.Answering.{no-capital, much-capital}
+use Rattle.book.proofs.Outcome.{no-capital, much-capital}
 use Rattle.book.proofs.assess.bad_capital.Statement.{statement}
 use Rattle.book.proofs.assess.bad_capital.Tie as tie
 

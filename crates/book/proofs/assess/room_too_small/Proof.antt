@@ -1,7 +1,7 @@
 -- `room_too_small`: 18 is on two rooms.
 use mathlib.Core.Path.{sym}
 use native.Mathlib.Omega.{arith}
-use Rattle.book.proofs.Answering.{small-report, small-ledger}
+use Rattle.book.proofs.Outcome.{small-report, small-ledger}
 use Rattle.book.proofs.assess.room_too_small.Statement.{statement}
 use Rattle.book.proofs.assess.room_too_small.Tie as tie
 

@@ -2,7 +2,7 @@
 use mathlib.Core.Path.{sym}
 use native.Mathlib.Omega.{arith}
 use borrow.Author.Needs.{needs}
-use Rattle.book.proofs.Facing.{no-cell}
+use Rattle.book.proofs.FaceLaws.{no-cell}
 use Rattle.book.proofs.face.put_place.Statement.{statement}
 use Rattle.book.proofs.face.put_place.Tie as tie
 

@@ -1,6 +1,6 @@
 -- `vorlegan_assess`: what `assess` answers, in numbers.
 use borrow.Author.Needs.{needs}
-use Rattle.book.proofs.Facing.{faced-reported, faced-refused}
+use Rattle.book.proofs.FaceLaws.{faced-reported, faced-refused}
 use Rattle.book.proofs.face.vorlegan_assess.Statement.{statement}
 use Rattle.book.proofs.face.vorlegan_assess.Tie as tie
 
@@ -13,8 +13,8 @@ enum-told c = search needs
 put-place-requires : tie.Need-put-place-requires
 put-place-requires c κs = search needs
 
-enum-known-cause : tie.Need-enum-known-cause
-enum-known-cause c = search needs
+enum-known-fault : tie.Need-enum-known-fault
+enum-known-fault c = search needs
 
 put-place-requires-2 : tie.Need-put-place-requires-2
 put-place-requires-2 c κs = search needs
@@ -32,7 +32,8 @@ same-length-3 : tie.Need-same-length-3
 same-length-3 c = search needs
 
 returns : tie.Need-returns
-returns c = faced-reported _ _ _ _ (c .before .before .before .before .enum-told .given .1) (c .before .before .before .before .before .before .before .before .assess .ensures .0 .answers) (c .before .before .put-place .ensures)
+returns c =
+    faced-reported _ _ _ _ (c .before .before .before .before .enum-told .given .1) (c .before .before .before .before .before .before .before .before .assess .ensures .0 .answers) (c .before .before .put-place .ensures)
 
 same-length-4 : tie.Need-same-length-4
 same-length-4 c = search needs
@@ -45,7 +46,7 @@ same-length-6 c = search needs
 
 returns-2 : tie.Need-returns-2
 returns-2 c =
-    faced-refused _ _ _ _ _ _ (c .before .before .before .before .before .before .cause .given .1) (c .before .before .before .before .before .before .before .before .before .before .assess .ensures .0 .answers) (c .before .before .before .put-place2 .ensures) (c .refusal-number .ensures)
+    faced-refused _ _ _ _ _ (c .before .before .before .before .before .before .fault .given .1) (c .before .before .before .before .before .before .before .before .before .before .assess .ensures .0 .answers) (c .before .before .before .put-place2 .ensures) (c .refusal-number .ensures)
 
 pub vorlegan-assess-spec : {M : Type 1} → statement M
 vorlegan-assess-spec =
@@ -54,7 +55,7 @@ vorlegan-assess-spec =
     assess-requires
     enum-told
     put-place-requires
-    enum-known-cause
+    enum-known-fault
     put-place-requires-2
     refusal-number-requires
     same-length

@@ -6,7 +6,7 @@ use native.Mathlib.Omega.{arith}
 use borrow.Author.Needs.{needs}
 use lib.IntN.{ℤ, pos}
 use lib.ListN.{length, set, drop, replicate, length-set}
-use Rattle.laws.proofs.Fill.{fill-more, fill-all}
+use Rattle.laws.proofs.Filling.{fill-value-more, fill-value-all}
 use Rattle.book.proofs.rooms.clear.Statement.{statement}
 use Rattle.book.proofs.rooms.clear.Tie as tie
 
@@ -36,13 +36,13 @@ loop-again c =
     let at = c .before .loop in
     let room = c .before .before .args .cells .now in
     let inside : at .i < length room = omega arith in
-    (omega arith, simp length-set (omega arith), ap (λ (l : List ℤ). set l (at .i) (pos 0)) (at .inv .2) ∙ fill-more (at .i) (pos 0) room inside)
+    (omega arith, simp length-set (omega arith), ap (λ (l : List ℤ). set l (at .i) (pos 0)) (at .inv .2) ∙ fill-value-more (at .i) (pos 0) room inside)
 
 same-length : tie.Need-same-length Inv-loop μ-loop
 same-length c = search needs
 
 returns : tie.Need-returns Inv-loop μ-loop
-returns c = c .before .loop .inv .2 ∙ fill-all (c .before .loop .i) (pos 0) (c .before .before .args .cells .now) (omega arith)
+returns c = c .before .loop .inv .2 ∙ fill-value-all (c .before .loop .i) (pos 0) (c .before .before .args .cells .now) (omega arith)
 
 pub clear-spec : {M : Type 1} → statement M
 clear-spec =

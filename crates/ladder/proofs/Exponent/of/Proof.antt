@@ -2,7 +2,7 @@
 use native.Mathlib.Omega.{arith}
 use mir.Facts.{toZ-ofZ}
 use mir.Syntax.{w64}
-use Rattle.laws.proofs.Fits.{back, sfits-abs}
+use Rattle.laws.proofs.Widths.{back, sfits-abs}
 use Rattle.ladder.proofs.Reach.{product-small, exponent-is}
 use Rattle.ladder.proofs.Exponent.of.Statement.{statement}
 use Rattle.ladder.proofs.Exponent.of.Tie as tie

@@ -8,7 +8,7 @@ use mir.Facts.{toZ-ofZ, toZ-pos}
 use mir.Syntax.{w64}
 use mir.Val.{toZ}
 use Rattle.laws.proofs.Integers.{zero-sub, abs-neg}
-use Rattle.laws.proofs.Fits.{sfits-abs}
+use Rattle.laws.proofs.Widths.{sfits-abs}
 use Rattle.paper.specs.Flow.{sided}
 use Rattle.ladder.proofs.Thousands.sided.Statement.{statement}
 use Rattle.ladder.proofs.Thousands.sided.Tie as tie

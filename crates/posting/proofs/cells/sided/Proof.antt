@@ -2,7 +2,7 @@ use mathlib.Core.Path.{sym, _∙_}
 use native.Mathlib.Omega.{arith}
 use mir.Facts.{toZ-ofZ}
 use mir.Syntax.{w64}
-use Rattle.laws.proofs.Fits.{sfits-abs}
+use Rattle.laws.proofs.Widths.{sfits-abs}
 use Rattle.posting.proofs.Sides.{sided-plus, sided-minus, minus-fits}
 use Rattle.posting.proofs.cells.sided.Statement.{statement}
 use Rattle.posting.proofs.cells.sided.Tie as tie

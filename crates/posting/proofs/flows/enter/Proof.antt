@@ -24,12 +24,17 @@ returns : tie.Need-returns
 returns c =
     entered _ (c .before .before .before .before .before .before .before .before .before .before .before .args .side) _ true (c .before .before .before .before .before .before .before .before .before .before .before .pre .1 .1 .sizes-long) (λ i l. refl) (c .before .before .before .before .before .before .admits .ensures) (c .before .before .before .if1 .taken) (c .before .add-flows .ensures)
 
+over-limit-requires : tie.Need-over-limit-requires
+over-limit-requires c κs = search needs
+
 same-length-3 : tie.Need-same-length-3
 same-length-3 c = search needs
 
 returns-2 : tie.Need-returns-2
 returns-2 c =
-    entered _ (c .before .before .before .before .before .before .before .before .args .side) _ false (c .before .before .before .before .before .before .before .before .pre .1 .1 .sizes-long) (λ i l. refl) (c .before .before .before .admits .ensures) (c .if1 .left) refl
+    let s = c .before .before .before .before .before .before .before .before .before in
+    rw (c .over-limit .ensures)
+    (entered _ (s .args .side) _ false (s .pre .1 .1 .sizes-long) (λ i l. refl) (c .before .before .before .before .admits .ensures) (c .before .if1 .left) refl)
 
 pub enter-spec : {M : Type 1} → statement M
 enter-spec =
@@ -40,5 +45,6 @@ enter-spec =
     same-length
     same-length-2
     returns
+    over-limit-requires
     same-length-3
     returns-2)

@@ -33,13 +33,17 @@ returns c =
     let s = c .before .before .before .before .before .before .before .before .before .before .before in
     entered _ (s .args .side) _ true (s .pre .1 .sizes-long) (same-size (s .args .size)) (c .before .before .before .before .before .before .admits .ensures) (c .before .before .before .if1 .taken) (c .before .add-row .ensures)
 
+over-limit-requires : tie.Need-over-limit-requires
+over-limit-requires c κs = search needs
+
 same-length-3 : tie.Need-same-length-3
 same-length-3 c = search needs
 
 returns-2 : tie.Need-returns-2
 returns-2 c =
-    let s = c .before .before .before .before .before .before .before .before in
-    entered _ (s .args .side) _ false (s .pre .1 .sizes-long) (same-size (s .args .size)) (c .before .before .before .admits .ensures) (c .if1 .left) refl
+    let s = c .before .before .before .before .before .before .before .before .before in
+    rw (c .over-limit .ensures)
+    (entered _ (s .args .side) _ false (s .pre .1 .sizes-long) (same-size (s .args .size)) (c .before .before .before .before .admits .ensures) (c .before .if1 .left) refl)
 
 pub enter-row-spec : {M : Type 1} → statement M
 enter-row-spec =
@@ -51,5 +55,6 @@ enter-row-spec =
     same-length
     same-length-2
     returns
+    over-limit-requires
     same-length-3
     returns-2)

@@ -2,20 +2,14 @@
 use mathlib.Core.Path.{ap, _∙_}
 use borrow.Author.Needs.{needs}
 use mir.Syntax.{w64}
-use Rattle.laws.proofs.Fits.{back}
+use Rattle.laws.proofs.Widths.{back}
 use Rattle.paper.specs.Fields.{signed}
 use Rattle.record.proofs.bytes.signed_at.Statement.{statement}
 use Rattle.record.proofs.bytes.signed_at.Tie as tie
-
-four-at-requires : tie.Need-four-at-requires
-four-at-requires c κs = search needs
-
-signed-of-requires : tie.Need-signed-of-requires
-signed-of-requires c κs = search needs
 
 returns : tie.Need-returns
 returns c =
     back w64 _ (c .signed-of .ok) ∙ c .signed-of .ensures ∙ ap signed (c .before .four-at .ensures)
 
 pub signed-at-spec : {M : Type 1} → statement M
-signed-at-spec = tie.close (tie.spec four-at-requires signed-of-requires returns)
+signed-at-spec = tie.close (tie.spec (λ c κs. search needs) (λ c κs. search needs) returns)

@@ -9,12 +9,6 @@ use Rattle.paper.specs.Fields.{signed}
 use Rattle.record.proofs.bytes.signed_of.Statement.{statement}
 use Rattle.record.proofs.bytes.signed_of.Tie as tie
 
-cast-result : tie.Need-cast-result
-cast-result c = search needs
-
-cast-result-2 : tie.Need-cast-result-2
-cast-result-2 c = search needs
-
 sub-result : tie.Need-sub-result
 sub-result c =
     let w = c .before .args .word in
@@ -36,4 +30,4 @@ returns-2 c =
     toZ-ofZ (sub-result c) ∙ simp (lt-ltb _ _ wide, le-ltb _ _ (c .if1 .left))
 
 pub signed-of-spec : {M : Type 1} → statement M
-signed-of-spec = tie.close (tie.spec cast-result cast-result-2 sub-result returns returns-2)
+signed-of-spec = tie.close (tie.spec (λ c. search needs) (λ c. search needs) sub-result returns returns-2)

@@ -8,19 +8,13 @@ use Rattle.laws.specs.Tests.{_below_}
 use Rattle.record.proofs.deposit.above_cap.Statement.{statement}
 use Rattle.record.proofs.deposit.above_cap.Tie as tie
 
-cap-of-requires : tie.Need-cap-of-requires
-cap-of-requires c κs = search needs
-
 mul-result : tie.Need-mul-result
 mul-result c =
     record { fits = omega (arith, mul-le-mul-right (c .before .args .total) (c .cap-of .ensures .1)) }
-
-mul-result-2 : tie.Need-mul-result-2
-mul-result-2 c = search needs
 
 returns : tie.Need-returns
 returns c =
     ap (λ (cap : ℕ). cap * c .before .args .total below 100 * c .before .args .core) (c .cap-of .ensures .0)
 
 pub above-cap-spec : {M : Type 1} → statement M
-above-cap-spec = tie.close (tie.spec cap-of-requires mul-result mul-result-2 returns)
+above-cap-spec = tie.close (tie.spec (λ c κs. search needs) mul-result (λ c. search needs) returns)

@@ -5,18 +5,9 @@ use Rattle.record.proofs.DepositLaws.{uncapped}
 use Rattle.record.proofs.deposit.cap_of.Statement.{statement}
 use Rattle.record.proofs.deposit.cap_of.Tie as tie
 
-returns : tie.Need-returns
-returns c = search needs
-
-returns-2 : tie.Need-returns-2
-returns-2 c = search needs
-
-returns-3 : tie.Need-returns-3
-returns-3 c = search needs
-
 returns-4 : tie.Need-returns-4
 returns-4 c =
     (sym (uncapped _ _ _ _ (c .match .rest .0 .0 .1) (c .match .rest .0 .1) (c .match .rest .1)), search needs)
 
 pub cap-of-spec : {M : Type 1} → statement M
-cap-of-spec = tie.close (tie.spec returns returns-2 returns-3 returns-4)
+cap-of-spec = tie.close (tie.spec (λ c. search needs) (λ c. search needs) (λ c. search needs) returns-4)

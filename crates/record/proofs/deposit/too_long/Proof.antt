@@ -8,9 +8,6 @@ use Rattle.laws.specs.Tests.{_below_}
 use Rattle.record.proofs.deposit.too_long.Statement.{statement}
 use Rattle.record.proofs.deposit.too_long.Tie as tie
 
-cap-of-requires : tie.Need-cap-of-requires
-cap-of-requires c κs = search needs
-
 mul-result : tie.Need-mul-result
 mul-result c =
     record { fits = omega (arith, mul-le-mul-right (c .before .args .core) (c .cap-of .ensures .1)) }
@@ -20,4 +17,4 @@ returns c =
     ap (λ (cap : ℕ). cap * c .before .args .core below c .before .args .weighed) (c .cap-of .ensures .0)
 
 pub too-long-spec : {M : Type 1} → statement M
-too-long-spec = tie.close (tie.spec cap-of-requires mul-result returns)
+too-long-spec = tie.close (tie.spec (λ c κs. search needs) mul-result returns)

@@ -23,40 +23,8 @@ more c =
     weighed-more _ _ _ _ _ (c .before .loop-test .taken) (c .before .before .loop .inv .1) (c .four-at .ensures) (omega arith)
     (ap (λ (l : List ℕ). getD l (c .before .before .loop .k) 0) (c .before .before .before .midpoints .ensures))
 
-midpoints-requires : tie.Need-midpoints-requires Inv-loop μ-loop
-midpoints-requires c κs =
-    search needs
-
 loop-holds : tie.Need-loop-holds Inv-loop μ-loop
 loop-holds c = (omega arith, weighed-none _)
-
-mul-four-at : tie.Need-mul-four-at Inv-loop μ-loop
-mul-four-at c =
-    search needs
-
-add-four-at : tie.Need-add-four-at Inv-loop μ-loop
-add-four-at c =
-    search needs
-
-four-at-requires : tie.Need-four-at-requires Inv-loop μ-loop
-four-at-requires c κs =
-    search needs
-
-cast-weighed : tie.Need-cast-weighed Inv-loop μ-loop
-cast-weighed c =
-    search needs
-
-mul-weighed : tie.Need-mul-weighed Inv-loop μ-loop
-mul-weighed c =
-    search needs
-
-array-read-weighed : tie.Need-array-read-weighed Inv-loop μ-loop
-array-read-weighed c =
-    search needs
-
-cast-weighed-2 : tie.Need-cast-weighed-2 Inv-loop μ-loop
-cast-weighed-2 c =
-    search needs
 
 mul-weighed-2 : tie.Need-mul-weighed-2 Inv-loop μ-loop
 mul-weighed-2 c =
@@ -65,14 +33,6 @@ mul-weighed-2 c =
 add-weighed : tie.Need-add-weighed Inv-loop μ-loop
 add-weighed c =
     record { fits = omega (arith, more c .small) }
-
-add-k : tie.Need-add-k Inv-loop μ-loop
-add-k c =
-    search needs
-
-loop-less : tie.Need-loop-less Inv-loop μ-loop
-loop-less c =
-    search needs
 
 loop-again : tie.Need-loop-again Inv-loop μ-loop
 loop-again c =
@@ -89,18 +49,9 @@ weighed-core-spec =
     (tie.spec
     Inv-loop
     μ-loop
-    midpoints-requires
-    loop-holds
-    mul-four-at
-    add-four-at
-    four-at-requires
-    cast-weighed
-    mul-weighed
-    array-read-weighed
-    cast-weighed-2
-    mul-weighed-2
+    (λ c κs. search needs) loop-holds
+    (λ c. search needs) (λ c. search needs) (λ c κs. search needs) (λ c. search needs) (λ c. search needs) (λ c. search needs)
+    (λ c. search needs) mul-weighed-2
     add-weighed
-    add-k
-    loop-less
-    loop-again
+    (λ c. search needs) (λ c. search needs) loop-again
     returns)

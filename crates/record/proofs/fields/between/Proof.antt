@@ -1,25 +1,20 @@
 -- `between` meets its contract, whichever refusal is asked.
-use mathlib.Core.Path.{sym}
 use borrow.Author.Tests.{lt-leb, le-leb}
-use Rattle.record.specs.Told.{told}
-use Rattle.record.proofs.FieldLaws.{field-good, field-bad}
+use Rattle.paper.specs.Refusals.{unless}
 use Rattle.record.proofs.fields.between.Statement.{statement}
 use Rattle.record.proofs.fields.between.Tie as tie
 
 returns : tie.Need-returns
-unfolding told
-returns c =
-    λ q o. sym (field-bad _ q o _ (simp (lt-leb _ _ (c .if1 .taken))))
+unfolding unless
+returns c = simp (lt-leb _ _ (c .if1 .taken))
 
 returns-2 : tie.Need-returns-2
-unfolding told
-returns-2 c =
-    λ q o. sym (field-bad _ q o _ (simp (le-leb _ _ (c .before .if1 .left), lt-leb _ _ (c .if2 .taken))))
+unfolding unless
+returns-2 c = simp (le-leb _ _ (c .before .if1 .left), lt-leb _ _ (c .if2 .taken))
 
 returns-3 : tie.Need-returns-3
-unfolding told
-returns-3 c =
-    λ q o. sym (field-good _ q o _ (simp (le-leb _ _ (c .before .if1 .left), le-leb _ _ (c .if2 .left))))
+unfolding unless
+returns-3 c = simp (le-leb _ _ (c .before .if1 .left), le-leb _ _ (c .if2 .left))
 
 pub between-spec : {M : Type 1} → statement M
 between-spec = tie.close (tie.spec returns returns-2 returns-3)

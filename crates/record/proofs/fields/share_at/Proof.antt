@@ -1,22 +1,15 @@
 -- `share_at` meets its contract: its range is the paper's.
-use mathlib.Core.Path.{ap, _∙_}
 use borrow.Author.Needs.{needs}
 use Rattle.paper.specs.declared.Refusal.the-variants.{BadShare}
 use Rattle.paper.specs.TurnedDown.{badShare}
-use Rattle.paper.specs.Fields.{field}
+use Rattle.record.specs.Answers.{fieldOf}
+use Rattle.record.proofs.FieldLaws.{field-read}
 use Rattle.record.proofs.fields.share_at.Statement.{statement}
 use Rattle.record.proofs.fields.share_at.Tie as tie
 
-two-at-requires : tie.Need-two-at-requires
-two-at-requires c κs = search needs
-
-at-most-requires : tie.Need-at-most-requires
-at-most-requires c κs = search needs
-
 returns : tie.Need-returns
 unfolding badShare
-returns c =
-    c .at-most .ensures BadShare _ ∙ ap (field badShare BadShare _) (c .before .two-at .ensures .0)
+returns c = field-read badShare BadShare _ fieldOf (c .at-most .ensures) (c .before .two-at .ensures .0)
 
 pub share-at-spec : {M : Type 1} → statement M
-share-at-spec = tie.close (tie.spec two-at-requires at-most-requires returns)
+share-at-spec = tie.close (tie.spec (λ c κs. search needs) (λ c. search needs) (λ c κs. search needs) returns)

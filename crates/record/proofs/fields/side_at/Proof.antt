@@ -1,22 +1,15 @@
 -- `side_at` meets its contract: its range is the paper's.
-use mathlib.Core.Path.{ap, _∙_}
 use borrow.Author.Needs.{needs}
 use Rattle.paper.specs.declared.Refusal.the-variants.{BadSide}
 use Rattle.paper.specs.TurnedDown.{badSide}
-use Rattle.paper.specs.Fields.{field}
+use Rattle.record.specs.Answers.{fieldOf}
+use Rattle.record.proofs.FieldLaws.{field-read}
 use Rattle.record.proofs.fields.side_at.Statement.{statement}
 use Rattle.record.proofs.fields.side_at.Tie as tie
 
-byte-at-requires : tie.Need-byte-at-requires
-byte-at-requires c κs = search needs
-
-between-requires : tie.Need-between-requires
-between-requires c κs = search needs
-
 returns : tie.Need-returns
 unfolding badSide
-returns c =
-    c .between .ensures BadSide _ ∙ ap (field badSide BadSide _) (c .before .byte-at .ensures)
+returns c = field-read badSide BadSide _ fieldOf (c .between .ensures) (c .before .byte-at .ensures)
 
 pub side-at-spec : {M : Type 1} → statement M
-side-at-spec = tie.close (tie.spec byte-at-requires between-requires returns)
+side-at-spec = tie.close (tie.spec (λ c κs. search needs) (λ c. search needs) (λ c κs. search needs) returns)

@@ -19,56 +19,16 @@ loop-holds : tie.Need-loop-holds Inv-loop μ-loop
 loop-holds c =
     (omega arith, passed-none _ _ (c .before .pre .1))
 
-mul-four-at : tie.Need-mul-four-at Inv-loop μ-loop
-mul-four-at c =
-    search needs
-
-add-four-at : tie.Need-add-four-at Inv-loop μ-loop
-add-four-at c =
-    search needs
-
-four-at-requires : tie.Need-four-at-requires Inv-loop μ-loop
-four-at-requires c κs =
-    search needs
-
-alone-requires : tie.Need-alone-requires Inv-loop μ-loop
-alone-requires c κs =
-    search needs
-
 returns : tie.Need-returns Inv-loop μ-loop
 returns c =
     let i = c .before .before .before in
     let test = sym (c .before .alone .ensures ∙ ap (λ (x : ℕ). 0 below x && i .before .loop .scheduled is 0) (c .before .before .four-at .ensures)) ∙ c .if1 .taken in
     sym (passed-stops _ _ _ (i .loop-test .taken) (i .before .loop .inv .1) test)
 
-mul-four-at-2 : tie.Need-mul-four-at-2 Inv-loop μ-loop
-mul-four-at-2 c =
-    search needs
-
-add-four-at-2 : tie.Need-add-four-at-2 Inv-loop μ-loop
-add-four-at-2 c =
-    search needs
-
-four-at-requires-2 : tie.Need-four-at-requires-2 Inv-loop μ-loop
-four-at-requires-2 c κs =
-    search needs
-
-cast-scheduled : tie.Need-cast-scheduled Inv-loop μ-loop
-cast-scheduled c =
-    search needs
-
 sub-scheduled : tie.Need-sub-scheduled Inv-loop μ-loop
 sub-scheduled c =
     let i = c .before .before .before .before in
     rw (c .four-at2 .ensures) (passed-covers _ _ _ (i .loop-test .taken) (i .before .loop .inv .1))
-
-add-k : tie.Need-add-k Inv-loop μ-loop
-add-k c =
-    search needs
-
-loop-less : tie.Need-loop-less Inv-loop μ-loop
-loop-less c =
-    search needs
 
 loop-again : tie.Need-loop-again Inv-loop μ-loop
 loop-again c =
@@ -89,17 +49,7 @@ interest-alone-spec =
     Inv-loop
     μ-loop
     loop-holds
-    mul-four-at
-    add-four-at
-    four-at-requires
-    alone-requires
-    returns
-    mul-four-at-2
-    add-four-at-2
-    four-at-requires-2
-    cast-scheduled
-    sub-scheduled
-    add-k
-    loop-less
-    loop-again
+    (λ c. search needs) (λ c. search needs) (λ c κs. search needs) (λ c κs. search needs) returns
+    (λ c. search needs) (λ c. search needs) (λ c κs. search needs) (λ c. search needs) sub-scheduled
+    (λ c. search needs) (λ c. search needs) loop-again
     returns-2)

@@ -9,7 +9,7 @@ use borrow.Author.Needs.{needs}
 use Rattle.laws.proofs.Lists.{tabulate-is}
 use Rattle.paper.specs.Ladder.{buckets}
 use Rattle.paper.specs.Flow.{couponsDue}
-use Rattle.laws.proofs.Filled.{Filled, filled-none, filled-next}
+use Rattle.laws.proofs.Filling.{Filled, filled-none, filled-next}
 use Rattle.slotting.proofs.Schedule.{monthEnds, start, coupons-in, between-ordered, principal-row, coupons-small}
 use Rattle.slotting.proofs.coupons.coupon_row.Statement.{statement}
 use Rattle.slotting.proofs.coupons.coupon_row.Tie as tie

@@ -13,8 +13,8 @@ use Rattle.paper.specs.Ladder.{buckets}
 use Rattle.paper.specs.Behaviour.{behaviouralRate, prepaymentMultipliers, prepaymentRate, loanFlow}
 use Rattle.paper.specs.Flow.{scenarios}
 use Rattle.paper.proofs.Deposits.{rate-at-most}
-use Rattle.record.specs.Told.{amountsFrom}
-use Rattle.laws.proofs.Filled.{Filled, filled-none, filled-next}
+use Rattle.record.specs.Answers.{amountsFrom}
+use Rattle.laws.proofs.Filling.{Filled, filled-none, filled-next}
 use Rattle.slotting.proofs.Rows.{Rows, rows-none, rows-next, rows-done, multiplier-small}
 use Rattle.slotting.proofs.loan.loan_flows.Statement.{statement}
 use Rattle.slotting.proofs.loan.loan_flows.Tie as tie

@@ -10,9 +10,9 @@ use Rattle.laws.proofs.Lists.{tabulate-is}
 use Rattle.laws.proofs.Sums.{sum-more}
 use Rattle.paper.specs.Ladder.{buckets}
 use Rattle.paper.specs.Behaviour.{outstandingAt, scheduledAt, loanFlow}
-use Rattle.record.specs.Told.{amountsFrom}
-use Rattle.laws.proofs.Filled.{Filled, filled-none, filled-next}
-use Rattle.slotting.proofs.Entered.{amounts-few}
+use Rattle.record.specs.Answers.{amountsFrom}
+use Rattle.laws.proofs.Filling.{Filled, filled-none, filled-next}
+use Rattle.slotting.proofs.Flows.{amounts-few}
 use Rattle.slotting.proofs.Prepayment.{Before, flow-is, left-is, rest-is, balance-within, none-alone-here, loan-sum}
 use Rattle.slotting.proofs.loan.loan_row.Statement.{statement}
 use Rattle.slotting.proofs.loan.loan_row.Tie as tie

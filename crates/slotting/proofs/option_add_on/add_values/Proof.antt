@@ -6,7 +6,7 @@ use lib.IntN.{pos, _+ℤ_, +ℤ-idr}
 use lib.ListN.{length, getD}
 use mir.Syntax.{w64}
 use borrow.Author.Needs.{needs}
-use Rattle.laws.proofs.Fits.{back}
+use Rattle.laws.proofs.Widths.{back}
 use Rattle.paper.specs.Flow.{sided}
 use Rattle.posting.proofs.Loops.{Joining, joining-none, joining-rest, joining-next, joining-done}
 use Rattle.paper.proofs.Magnitudes.{abs-sided}

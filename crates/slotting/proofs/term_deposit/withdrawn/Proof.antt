@@ -9,9 +9,9 @@ use Rattle.laws.specs.Sums.{sum}
 use Rattle.laws.proofs.Lists.{tabulate-length}
 use Rattle.laws.proofs.Sums.{sum-more}
 use Rattle.paper.specs.Behaviour.{moved}
-use Rattle.record.specs.Told.{amountsFrom}
-use Rattle.laws.proofs.Filled.{Filled, filled-none, filled-next}
-use Rattle.slotting.proofs.Deposited.{withdrawn-row}
+use Rattle.record.specs.Answers.{amountsFrom}
+use Rattle.laws.proofs.Filling.{Filled, filled-none, filled-next}
+use Rattle.slotting.proofs.DepositRows.{withdrawn-row}
 use Rattle.slotting.proofs.term_deposit.withdrawn.Statement.{statement}
 use Rattle.slotting.proofs.term_deposit.withdrawn.Tie as tie
 

@@ -9,7 +9,7 @@ use Rattle.laws.proofs.Sections.{length-section}
 use Rattle.paper.specs.Ladder.{buckets}
 use Rattle.paper.specs.Behaviour.{behaviouralRate, withdrawalMultipliers, withdrawalRate, termDepositFlow}
 use Rattle.paper.proofs.Deposits.{rate-at-most}
-use Rattle.record.specs.Told.{amountsFrom}
+use Rattle.record.specs.Answers.{amountsFrom}
 use Rattle.slotting.proofs.Rows.{Rows, rows-none, rows-next, rows-done, multiplier-small}
 use Rattle.slotting.proofs.term_deposit.withdrawn_flows.Statement.{statement}
 use Rattle.slotting.proofs.term_deposit.withdrawn_flows.Tie as tie

@@ -7,7 +7,7 @@ use lib.IntN.{pos}
 use lib.ListN.{length, getD, take, length-take}
 use lib.Seq.{take-all}
 use mir.Syntax.{w64}
-use Rattle.laws.proofs.Fits.{back}
+use Rattle.laws.proofs.Widths.{back}
 use Rattle.paper.specs.Program.{items}
 use Rattle.text.specs.Written.{Wrote}
 use Rattle.text.proofs.Writing.{wrote-none, wrote-then}

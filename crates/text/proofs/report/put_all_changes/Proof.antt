@@ -5,7 +5,7 @@ use native.Mathlib.Omega.{arith}
 use borrow.Author.Needs.{needs}
 use lib.ListN.{length}
 use Rattle.paper.specs.Program.{changesLines}
-use Rattle.arrays.specs.Rooms.{curvedBy}
+use Rattle.arrays.specs.Masks.{curvedBy}
 use Rattle.text.specs.Written.{Wrote}
 use Rattle.text.proofs.Writing.{wrote-none, wrote-then}
 use Rattle.text.proofs.Figures.{changes-more, changes-length}

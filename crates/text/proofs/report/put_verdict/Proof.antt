@@ -3,7 +3,7 @@ use borrow.Author.Needs.{needs}
 use lib.IntN.{pos}
 use mir.Facts.{sfits-lit}
 use mir.Syntax.{w64}
-use Rattle.laws.proofs.Fits.{bits-eq}
+use Rattle.laws.proofs.Widths.{bits-eq}
 use Rattle.paper.specs.Program.{verdictWord}
 use Rattle.text.proofs.Words.{word-close}
 use Rattle.text.proofs.report.put_verdict.Statement.{statement}

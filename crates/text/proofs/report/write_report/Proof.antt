@@ -5,9 +5,9 @@ use lib.IntN.{pos}
 use lib.ListN.{getD}
 use mir.Syntax.{w64}
 use Rattle.laws.specs.Lists.{tabulateFrom}
-use Rattle.laws.proofs.Fits.{back}
+use Rattle.laws.proofs.Widths.{back}
 use Rattle.paper.specs.Program.{reportText}
-use Rattle.arrays.specs.Rooms.{curvedBy}
+use Rattle.arrays.specs.Masks.{curvedBy}
 use Rattle.text.proofs.Writing.{wrote-then, wrote-first}
 use Rattle.text.proofs.Words.{verdict-length}
 use Rattle.text.proofs.Figures.{side-by-side, line-lengths}

@@ -10,29 +10,26 @@ use mir.Val.{SFits, toZ, ofZ}
 use mir.Facts.{toZ-ofZ}
 use borrow.Author.Needs.{needs}
 use Rattle.laws.specs.Nearest.{nearestℤ}
-use Rattle.laws.proofs.Fits.{back}
+use Rattle.laws.proofs.Widths.{back}
+use Rattle.laws.proofs.Filling.{Filled, filled-none, filled-next, filled-from}
 use Rattle.paper.specs.Scales.{billion}
+use Rattle.paper.specs.Flow.{scenarios, shocked}
 use Rattle.paper.specs.Ledger.{Totals}
 use Rattle.paper.specs.Change.{value, change}
 use Rattle.arrays.specs.Rooms.{totalsBy}
 use Rattle.valuation.specs.Bounds.{BoundedRow}
-use Rattle.valuation.proofs.Filled.{filled, filled-none, filled-more, filled-length, filled-all}
-use Rattle.valuation.proofs.Same.{SameRow, value-same, row-bounded}
-use Rattle.valuation.proofs.Parts.{no-add-ons, part-addOn}
-use Rattle.valuation.proofs.Most.{difference-most, difference-fits, change-fits}
+use Rattle.valuation.proofs.Agreement.{SameRow, value-same, row-bounded}
+use Rattle.valuation.proofs.CurrencyParts.{no-add-ons, part-addOn}
+use Rattle.valuation.proofs.Bounds.{difference-most, difference-fits, change-fits}
 use Rattle.valuation.proofs.change.fill_changes.Statement.{statement}
 use Rattle.valuation.proofs.change.fill_changes.Tie as tie
 
 abbrev Inv-loop : tie.InvT-loop
 Inv-loop cells rates add-ons midpoints table changes₀ base i₀ changes i =
-    (i ≤ 6) × (changes ≡ filled (change (totalsBy cells add-ons rates) 1) 1 i changes₀)
+    (i ≤ shocked) × (length changes ≡ shocked) × Filled (pos 0) i (λ j. change (totalsBy cells add-ons rates) 1 (j + 1)) changes
 
 abbrev μ-loop : tie.MeasureT-loop
-μ-loop cells rates add-ons midpoints table changes₀ base i₀ changes i = 6 - i
-
--- the room's length at the loop's head
-long : (c : tie.At-loop Inv-loop μ-loop) → length (c .loop .changes) ≡ 6
-long c = filled-length _ 1 (c .loop .i) _ (c .loop .inv .1) (omega arith) ∙ c .before .before .before .pre .0 .3
+μ-loop cells rates add-ons midpoints table changes₀ base i₀ changes i = shocked - i
 
 module _ (s : tie.Start Inv-loop μ-loop) where
   abbrev t : Totals
@@ -41,7 +38,7 @@ module _ (s : tie.Start Inv-loop μ-loop) where
   abbrev bare : (i : ℕ) → SameRow t 1 i (totalsBy (s .args .cells .now) [] (s .args .rates .now)) 1 i
   bare = no-add-ons (s .args .cells .now) (s .args .add-ons .now) (s .args .rates .now) 1
 
-  row : (i : ℕ) → i < 7 → BoundedRow (totalsBy (s .args .cells .now) [] (s .args .rates .now)) 1 i
+  row : (i : ℕ) → i < scenarios → BoundedRow (totalsBy (s .args .cells .now) [] (s .args .rates .now)) 1 i
   row i l = row-bounded (bare i) (s .pre .1 .0 .rows i l)
 
 -- the difference of this turn
@@ -58,7 +55,7 @@ module _ (c : tie.After-value-of2 Inv-loop μ-loop) where
   abbrev low : 1 ≤ i
   low = omega arith
 
-  abbrev high : i ≤ 6
+  abbrev high : i ≤ shocked
   high = omega arith
 
   difference-is : toZ w64 (ofZ w64 (head .before .value-of .result)) -ℤ toZ w64 (ofZ w64 (c .value-of2 .result)) ≡ value (t start) 1 0 -ℤ value (t start) 1 i
@@ -96,7 +93,7 @@ value-of-requires c κs =
     ((search needs, search needs, omega arith), (row (c .before) 0 (omega arith), (search needs, search needs)))
 
 loop-holds : tie.Need-loop-holds Inv-loop μ-loop
-loop-holds c = (omega arith, sym (filled-none _ 1 _))
+loop-holds c = (search needs, search needs, filled-none (pos 0) _ (c .before .before .args .changes .now))
 
 add-value-of : tie.Need-add-value-of Inv-loop μ-loop
 add-value-of c = search needs
@@ -126,7 +123,7 @@ mul-t17 : tie.Need-mul-t17 Inv-loop μ-loop
 mul-t17 c = search needs
 
 slice-set-from-changes : tie.Need-slice-set-from-changes Inv-loop μ-loop
-slice-set-from-changes c = omega (arith, long (head (v c)))
+slice-set-from-changes c = search needs
 
 add-i : tie.Need-add-i Inv-loop μ-loop
 add-i c = search needs
@@ -136,18 +133,15 @@ loop-less c = search needs
 
 loop-again : tie.Need-loop-again Inv-loop μ-loop
 loop-again c =
-    let at = head (v c) in
-    let next : at .loop .i + 1 ≡ 1 + at .loop .i = omega arith in
-    let same = ap (λ (z : ℤ). toZ w64 (ofZ w64 z)) (change-is c) ∙ toZ-ofZ (change-held c) ∙ ap (change (t (start (v c))) 1) next in
-    (omega arith, filled-more _ 1 (at .loop .i) _ (at .loop .inv .1) same (omega arith))
+    let at = head (v c) .loop in
+    let is = ap (λ (z : ℤ). toZ w64 (ofZ w64 z)) (change-is c) ∙ toZ-ofZ (change-held c) in
+    (search needs, search needs, filled-next (pos 0) _ (at .changes) (at .i) _ (at .inv .2) is (search needs))
 
 same-length : tie.Need-same-length Inv-loop μ-loop
-same-length c = long (c .before) ∙ sym (c .before .before .before .before .pre .0 .3)
+same-length c = search needs
 
 returns : tie.Need-returns Inv-loop μ-loop
-returns c =
-    let e : c .before .loop .i ≡ 6 = omega arith in
-    filled-all _ 1 6 _ (rw e at (c .before .loop .inv .1)) (c .before .before .before .before .pre .0 .3)
+returns c = let at = c .before .loop in filled-from (pos 0) _ 1 (at .changes) shocked (at .inv .1) (λ j o. at .inv .2 j (omega arith))
 
 pub fill-changes-spec : {M : Type 1} → statement M
 fill-changes-spec =

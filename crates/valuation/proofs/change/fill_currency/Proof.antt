@@ -7,12 +7,13 @@ use lib.IntN.{ℤ, pos}
 use Rattle.laws.specs.Lists.{tabulateFrom, section, splice}
 use Rattle.laws.proofs.Lists.{tabulateFrom-ext}
 use Rattle.laws.proofs.Sections.{length-section}
-use Rattle.paper.specs.Ledger.{Totals}
+use Rattle.paper.specs.Flow.{shocked}
+use Rattle.paper.specs.Ledger.{sectionSize, Totals}
 use Rattle.paper.specs.Change.{change, tolerance}
 use Rattle.arrays.specs.Rooms.{totalsBy}
 use Rattle.valuation.specs.Bounds.{Bounded}
-use Rattle.valuation.proofs.Same.{SameCurrency, currency-bounded, change-same, tolerance-same}
-use Rattle.valuation.proofs.Parts.{net-alone, tolerance-alone, part-of}
+use Rattle.valuation.proofs.Agreement.{SameCurrency, currency-bounded, change-same, tolerance-same}
+use Rattle.valuation.proofs.CurrencyParts.{net-alone, tolerance-alone, part-of}
 use borrow.Author.Needs.{needs}
 use Rattle.valuation.proofs.change.fill_currency.Statement.{statement}
 use Rattle.valuation.proofs.change.fill_currency.Tie as tie
@@ -23,13 +24,13 @@ module _ (s : tie.Start) where
   c₀ = s .args .c
 
   abbrev cells : List ℤ
-  cells = section (133 * c₀) 133 (s .args .ledger .now)
+  cells = section (sectionSize * c₀) sectionSize (s .args .ledger .now)
 
   abbrev rates : List ℤ
-  rates = section (133 * c₀) 133 (s .args .rates .now)
+  rates = section (sectionSize * c₀) sectionSize (s .args .rates .now)
 
   abbrev addOns : List ℤ
-  addOns = section (6 * c₀) 6 (s .args .add-ons .now)
+  addOns = section (shocked * c₀) shocked (s .args .add-ons .now)
 
   abbrev t : Totals
   t = totalsBy (s .args .ledger .now) (s .args .add-ons .now) (s .args .rates .now)
@@ -43,18 +44,18 @@ module _ (s : tie.Start) where
   bounded : Bounded own 1
   bounded = currency-bounded same (s .pre .1 .1 .0)
 
-  cells-count : 133 * c₀ + 133 - 133 * c₀ ≡ 133
+  cells-count : sectionSize * c₀ + sectionSize - sectionSize * c₀ ≡ sectionSize
   cells-count = omega arith
 
-  six-count : 6 * c₀ + 6 - 6 * c₀ ≡ 6
+  six-count : shocked * c₀ + shocked - shocked * c₀ ≡ shocked
   six-count = omega arith
 
-  six-changes : tabulateFrom (change own 1) 1 6 ≡ tabulateFrom (change t (c₀ + 1)) 1 6
-  six-changes = tabulateFrom-ext _ _ 1 6 (λ i p l. sym (change-same same i p (omega arith)))
+  six-changes : tabulateFrom (change own 1) 1 shocked ≡ tabulateFrom (change t (c₀ + 1)) 1 shocked
+  six-changes = tabulateFrom-ext _ _ 1 shocked (λ i p l. sym (change-same same i p (omega arith)))
 
-  six-tolerances : tabulateFrom (λ i. pos (tolerance (totalsBy cells [] []) 1 i)) 1 6 ≡ tabulateFrom (λ i. pos (tolerance t (c₀ + 1) i)) 1 6
+  six-tolerances : tabulateFrom (λ i. pos (tolerance (totalsBy cells [] []) 1 i)) 1 shocked ≡ tabulateFrom (λ i. pos (tolerance t (c₀ + 1) i)) 1 shocked
   six-tolerances =
-      tabulateFrom-ext _ _ 1 6 (λ i p l. ap pos (sym (tolerance-same same i p (omega arith) ∙ tolerance-alone cells addOns rates 1 i)))
+      tabulateFrom-ext _ _ 1 shocked (λ i p l. ap pos (sym (tolerance-same same i p (omega arith) ∙ tolerance-alone cells addOns rates 1 i)))
 
 mul-start : tie.Need-mul-start
 mul-start c = search needs
@@ -120,12 +121,12 @@ fill-changes-requires : tie.Need-fill-changes-requires
 fill-changes-requires c κs =
     let s = c .before .before .before .before .before in
     rw (cells-count s, six-count s) (
-      (
-        length-section (133 * c₀ s) 133 (s .args .ledger .now) (omega arith),
-        length-section (133 * c₀ s) 133 (s .args .rates .now) (omega arith),
-        length-section (6 * c₀ s) 6 (s .args .add-ons .now) (omega arith),
-        length-section (6 * c₀ s) 6 (s .args .changes .now) (omega arith),
-      ),
+      record {
+        cells-long = length-section (sectionSize * c₀ s) sectionSize (s .args .ledger .now) (omega arith);
+        rates-long = length-section (sectionSize * c₀ s) sectionSize (s .args .rates .now) (omega arith);
+        addOns-long = length-section (shocked * c₀ s) shocked (s .args .add-ons .now) (omega arith);
+        changes-long = length-section (shocked * c₀ s) shocked (s .args .changes .now) (omega arith);
+      },
       (bounded s, (s .pre .1 .1 .1 .0, s .pre .1 .1 .1 .1)),
     )
 
@@ -158,8 +159,8 @@ fill-tolerances-requires c κs =
     let s = c .before .before .before .before .before .before .before .before .before in
     rw (cells-count s, six-count s) (
       (
-        length-section (133 * c₀ s) 133 (s .args .ledger .now) (omega arith),
-        length-section (6 * c₀ s) 6 (s .args .tolerances .now) (omega arith),
+        length-section (sectionSize * c₀ s) sectionSize (s .args .ledger .now) (omega arith),
+        length-section (shocked * c₀ s) shocked (s .args .tolerances .now) (omega arith),
       ),
       λ i l. omega (arith, net-alone (cells s) (addOns s) (rates s) 1 i, bounded s .rows i l .net),
     )
@@ -176,8 +177,8 @@ returns c =
     let filled = rw (cells-count s, six-count s) at (c .before .before .before .before .before .fill-changes .ensures) in
     let tolerated = rw (cells-count s) at (c .before .fill-tolerances .ensures) in
     rw (six-count s) (
-      ap (λ (l : List ℤ). splice (6 * c₀ s) 6 (s .args .changes .now) l) (filled ∙ six-changes s),
-      ap (λ (l : List ℤ). splice (6 * c₀ s) 6 (s .args .tolerances .now) l) (tolerated ∙ six-tolerances s),
+      ap (λ (l : List ℤ). splice (shocked * c₀ s) shocked (s .args .changes .now) l) (filled ∙ six-changes s),
+      ap (λ (l : List ℤ). splice (shocked * c₀ s) shocked (s .args .tolerances .now) l) (tolerated ∙ six-tolerances s),
     )
 
 pub fill-currency-spec : {M : Type 1} → statement M

@@ -1,7 +1,7 @@
 -- `fill_tolerances` meets its contract. The room is filled from the front with the tolerances.
 use Prim.Native.Nat.{_+_, _*_, _-_, _≤_}
 use mathlib.Core.List.{[]}
-use mathlib.Core.Path.{_≡_, sym, ap, ap₂, _∙_}
+use mathlib.Core.Path.{_≡_, ap, ap₂, _∙_}
 use native.Mathlib.Omega.{arith}
 use lib.IntN.{pos}
 use lib.ListN.{length}
@@ -9,25 +9,22 @@ use mir.Syntax.{w64}
 use mir.Val.{SFits}
 use mir.Facts.{toZ-pos}
 use borrow.Author.Needs.{needs}
+use Rattle.laws.proofs.Filling.{Filled, filled-none, filled-next, filled-from}
 use Rattle.paper.specs.Scales.{billion}
+use Rattle.paper.specs.Flow.{shocked}
 use Rattle.paper.specs.Ledger.{Totals}
-use Rattle.paper.specs.Change.{netSize, toleranceOf, tolerance}
+use Rattle.paper.specs.Change.{toleranceOf, tolerance}
 use Rattle.arrays.specs.Rooms.{totalsBy}
-use Rattle.valuation.proofs.Filled.{filled, filled-none, filled-more, filled-length, filled-all}
-use Rattle.valuation.proofs.Most.{tolerance-most}
+use Rattle.valuation.proofs.Bounds.{tolerance-most}
 use Rattle.valuation.proofs.change.fill_tolerances.Statement.{statement}
 use Rattle.valuation.proofs.change.fill_tolerances.Tie as tie
 
 abbrev Inv-loop : tie.InvT-loop
 Inv-loop cells tolerances₀ base i₀ tolerances i =
-    (i ≤ 6) × (tolerances ≡ filled (λ j. pos (tolerance (totalsBy cells [] []) 1 j)) 1 i tolerances₀)
+    (i ≤ shocked) × (length tolerances ≡ shocked) × Filled (pos 0) i (λ j. pos (tolerance (totalsBy cells [] []) 1 (j + 1))) tolerances
 
 abbrev μ-loop : tie.MeasureT-loop
-μ-loop cells tolerances₀ base i₀ tolerances i = 6 - i
-
--- the room's length at the loop's head
-long : (c : tie.At-loop Inv-loop μ-loop) → length (c .loop .tolerances) ≡ 6
-long c = filled-length _ 1 (c .loop .i) _ (c .loop .inv .1) (omega arith) ∙ c .before .before .pre .0 .1
+μ-loop cells tolerances₀ base i₀ tolerances i = shocked - i
 
 -- the two sizes of this turn
 sizes : (c : tie.After-net-size2 Inv-loop μ-loop) → c .before .before .before .net-size .result + c .net-size2 .result ≤ 2 * billion
@@ -43,24 +40,20 @@ module _ (c : tie.After-tolerance-of Inv-loop μ-loop) where
   abbrev t : Totals
   t = totalsBy (head .before .before .args .cells .now) [] []
 
-  tolerance-is : c .tolerance-of .result ≡ tolerance t 1 (1 + head .loop .i)
+  tolerance-is : c .tolerance-of .result ≡ tolerance t 1 (head .loop .i + 1)
   unfolding tolerance
-  tolerance-is =
-      let next : head .loop .i + 1 ≡ 1 + head .loop .i = omega arith in
-      let sizes : head .before .net-size .result + c .before .net-size2 .result ≡ netSize t 1 0 + netSize t 1 (1 + head .loop .i) =
-      ap₂ _+_ (head .before .net-size .ensures) (c .before .net-size2 .ensures ∙ ap (netSize t 1) next) in
-      c .tolerance-of .ensures ∙ ap toleranceOf sizes
+  tolerance-is = c .tolerance-of .ensures ∙ ap toleranceOf (ap₂ _+_ (head .before .net-size .ensures) (c .before .net-size2 .ensures))
 
   fits : SFits w64 (pos (c .tolerance-of .result))
   fits =
       let s = head .before .before in
-      record { sfits = omega (arith, tolerance-is, tolerance-most t 1 (1 + head .loop .i) (s .pre .1 0 (omega arith)) (s .pre .1 (1 + head .loop .i) (omega arith))) }
+      record { sfits = omega (arith, tolerance-is, tolerance-most t 1 (head .loop .i + 1) (s .pre .1 0 (omega arith)) (s .pre .1 (head .loop .i + 1) (omega arith))) }
 
 net-size-requires : tie.Need-net-size-requires Inv-loop μ-loop
 net-size-requires c κs = ((search needs, omega arith), c .pre .1 0 (omega arith))
 
 loop-holds : tie.Need-loop-holds Inv-loop μ-loop
-loop-holds c = (omega arith, sym (filled-none _ 1 _))
+loop-holds c = (search needs, search needs, filled-none (pos 0) _ (c .before .args .tolerances .now))
 
 add-net-size : tie.Need-add-net-size Inv-loop μ-loop
 add-net-size c = search needs
@@ -81,7 +74,7 @@ mul-t11 : tie.Need-mul-t11 Inv-loop μ-loop
 mul-t11 c = search needs
 
 slice-set-from-tolerances : tie.Need-slice-set-from-tolerances Inv-loop μ-loop
-slice-set-from-tolerances c = omega (arith, long (head c))
+slice-set-from-tolerances c = search needs
 
 add-i : tie.Need-add-i Inv-loop μ-loop
 add-i c = search needs
@@ -91,16 +84,15 @@ loop-less c = search needs
 
 loop-again : tie.Need-loop-again Inv-loop μ-loop
 loop-again c =
-    let same = toZ-pos w64 {n = c .tolerance-of .result} (fits c .sfits) ∙ ap pos (tolerance-is c) in
-    (omega arith, filled-more _ 1 (head c .loop .i) _ (head c .loop .inv .1) same (omega arith))
+    let at = head c .loop in
+    let is = toZ-pos w64 {n = c .tolerance-of .result} (fits c .sfits) ∙ ap pos (tolerance-is c) in
+    (search needs, search needs, filled-next (pos 0) _ (at .tolerances) (at .i) _ (at .inv .2) is (search needs))
 
 same-length : tie.Need-same-length Inv-loop μ-loop
-same-length c = long (c .before) ∙ sym (c .before .before .before .pre .0 .1)
+same-length c = search needs
 
 returns : tie.Need-returns Inv-loop μ-loop
-returns c =
-    let e : c .before .loop .i ≡ 6 = omega arith in
-    filled-all _ 1 6 _ (rw e at (c .before .loop .inv .1)) (c .before .before .before .pre .0 .1)
+returns c = let at = c .before .loop in filled-from (pos 0) _ 1 (at .tolerances) shocked (at .inv .1) (λ j o. at .inv .2 j (omega arith))
 
 pub fill-tolerances-spec : {M : Type 1} → statement M
 fill-tolerances-spec =

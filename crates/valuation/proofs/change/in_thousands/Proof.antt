@@ -3,7 +3,7 @@ use mathlib.Core.Path.{_∙_}
 use mir.Facts.{toZ-ofZ}
 use mir.Syntax.{w64}
 use borrow.Author.Needs.{needs}
-use Rattle.laws.proofs.Fits.{back}
+use Rattle.laws.proofs.Widths.{back}
 use Rattle.valuation.proofs.change.in_thousands.Statement.{statement}
 use Rattle.valuation.proofs.change.in_thousands.Tie as tie
 

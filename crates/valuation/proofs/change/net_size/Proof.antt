@@ -9,20 +9,21 @@ use mir.Syntax.{w64}
 use mir.Val.{toZ, ofZ}
 use borrow.Author.Needs.{needs}
 use Rattle.laws.specs.Sums.{sum}
-use Rattle.laws.proofs.Fits.{back}
+use Rattle.laws.proofs.Widths.{back}
 use Rattle.laws.proofs.Sums.{sum-more, sum-upto}
 use Rattle.paper.specs.Scales.{billion}
+use Rattle.paper.specs.Ladder.{buckets}
 use Rattle.paper.specs.Change.{netSize}
 use Rattle.arrays.specs.Rooms.{cellBy}
-use Rattle.valuation.proofs.Parts.{part-cell}
+use Rattle.valuation.proofs.CurrencyParts.{part-cell}
 use Rattle.valuation.proofs.change.net_size.Statement.{statement}
 use Rattle.valuation.proofs.change.net_size.Tie as tie
 
 abbrev Inv-loop : tie.InvT-loop
-Inv-loop cells scenario start size₀ k₀ size k = (k ≤ 19) × (size ≡ sum (λ j. natAbs (cellBy cells 1 scenario j)) k)
+Inv-loop cells scenario start size₀ k₀ size k = (k ≤ buckets) × (size ≡ sum (λ j. natAbs (cellBy cells 1 scenario j)) k)
 
 abbrev μ-loop : tie.MeasureT-loop
-μ-loop cells scenario start size₀ k₀ size k = 19 - k
+μ-loop cells scenario start size₀ k₀ size k = buckets - k
 
 -- the row's flows, and the bound on the sum with that of this turn
 module _ (c : tie.After-magnitude-arg Inv-loop μ-loop) where
@@ -37,11 +38,11 @@ module _ (c : tie.After-magnitude-arg Inv-loop μ-loop) where
 
   room : sum size (head .loop .k) + size (head .loop .k) ≤ billion
   unfolding netSize
-  room = omega (arith, sum-upto size (head .loop .k) 19 (c .before .loop-test .taken), head .before .pre .1)
+  room = omega (arith, sum-upto size (head .loop .k) buckets (c .before .loop-test .taken), head .before .pre .1)
 
   -- the flow that was read
-  flow-is : toZ w64 (ofZ w64 (getD part (19 * head .before .args .scenario + head .loop .k) (pos 0))) ≡ cellBy part 1 (head .before .args .scenario) (head .loop .k)
-  flow-is = back w64 (getD part (19 * head .before .args .scenario + head .loop .k) (pos 0)) (c .magnitude-arg .given) ∙ sym (part-cell part _ _)
+  flow-is : toZ w64 (ofZ w64 (getD part (buckets * head .before .args .scenario + head .loop .k) (pos 0))) ≡ cellBy part 1 (head .before .args .scenario) (head .loop .k)
+  flow-is = back w64 (getD part (buckets * head .before .args .scenario + head .loop .k) (pos 0)) (c .magnitude-arg .given) ∙ sym (part-cell part _ _)
 
 magnitude-is : (c : tie.After-magnitude Inv-loop μ-loop) → c .magnitude .result ≡ size (c .before) (head (c .before) .loop .k)
 magnitude-is c = c .magnitude .ensures ∙ ap natAbs (flow-is (c .before))
@@ -80,7 +81,7 @@ loop-again c = (omega arith, omega (arith, magnitude-is c, sum-more (size (c .be
 returns : tie.Need-returns Inv-loop μ-loop
 unfolding netSize
 returns c =
-    let e : c .before .loop .k ≡ 19 = omega arith in
+    let e : c .before .loop .k ≡ buckets = omega arith in
     rw e at (c .before .loop .inv .1)
 
 pub net-size-spec : {M : Type 1} → statement M

@@ -11,24 +11,24 @@ use mir.Val.{SFits, toZ, ofZ}
 use mir.Facts.{toZ-ofZ, toZ-pos}
 use borrow.Author.Needs.{needs}
 use Rattle.laws.specs.Sums.{sumℤ}
-use Rattle.laws.proofs.Fits.{back}
+use Rattle.laws.proofs.Widths.{back}
 use Rattle.laws.proofs.Sums.{sumℤ-more}
-use Rattle.paper.specs.Ladder.{midpoints, midpoint}
+use Rattle.paper.specs.Ladder.{buckets, midpoints, midpoint}
 use Rattle.paper.specs.Factor.{factor}
 use Rattle.paper.specs.Ledger.{Totals}
 use Rattle.paper.specs.Change.{value, exponent}
 use Rattle.arrays.specs.Rooms.{cellBy, totalsBy}
-use Rattle.valuation.proofs.Parts.{part-cell}
-use Rattle.valuation.proofs.Most.{weighed, weighed-fits, weighed-sum-fits}
+use Rattle.valuation.proofs.CurrencyParts.{part-cell}
+use Rattle.valuation.proofs.Bounds.{weighed, weighed-fits, weighed-sum-fits}
 use Rattle.valuation.proofs.change.value_of.Statement.{statement}
 use Rattle.valuation.proofs.change.value_of.Tie as tie
 
 abbrev Inv-loop : tie.InvT-loop
 Inv-loop cells rates scenario midpoints table start sum₀ k₀ sum k =
-    (k ≤ 19) × (toZ w64 sum ≡ sumℤ (weighed (totalsBy cells [] rates) 1 scenario) k)
+    (k ≤ buckets) × (toZ w64 sum ≡ sumℤ (weighed (totalsBy cells [] rates) 1 scenario) k)
 
 abbrev μ-loop : tie.MeasureT-loop
-μ-loop cells rates scenario midpoints table start sum₀ k₀ sum k = 19 - k
+μ-loop cells rates scenario midpoints table start sum₀ k₀ sum k = buckets - k
 
 module _ (c : tie.At-loop Inv-loop μ-loop) where
   abbrev start : tie.Start Inv-loop μ-loop
@@ -41,9 +41,9 @@ module _ (c : tie.At-loop Inv-loop μ-loop) where
   i = start .args .scenario
 
   -- an element of this turn that was read, of the cells or of the rates
-  read-is : (part : List ℤ) → mag (getD part (19 * i + c .loop .k) (pos 0)) < 2 ^ 63
-      → toZ w64 (ofZ w64 (getD part (19 * i + c .loop .k) (pos 0))) ≡ cellBy part 1 i (c .loop .k)
-  read-is part h = back w64 (getD part (19 * i + c .loop .k) (pos 0)) h ∙ sym (part-cell part i (c .loop .k))
+  read-is : (part : List ℤ) → mag (getD part (buckets * i + c .loop .k) (pos 0)) < 2 ^ 63
+      → toZ w64 (ofZ w64 (getD part (buckets * i + c .loop .k) (pos 0))) ≡ cellBy part 1 i (c .loop .k)
+  read-is part h = back w64 (getD part (buckets * i + c .loop .k) (pos 0)) h ∙ sym (part-cell part i (c .loop .k))
 
 -- the rate and the midpoint of this turn
 module _ (c : tie.After-of Inv-loop μ-loop) where
@@ -56,7 +56,7 @@ module _ (c : tie.After-of Inv-loop μ-loop) where
   years-are : c .of .result .0 ≡ pos (midpoint k)
   years-are = c .of .ensures ∙ ap (λ (l : List ℕ). pos (getD l k 0)) (start head .pre .1 .1 .0)
 
-  rate-is : toZ w64 (ofZ w64 (getD (start head .args .rates .now) (19 * i head + k) (pos 0))) ≡ row head .rate 1 (i head) k
+  rate-is : toZ w64 (ofZ w64 (getD (start head .args .rates .now) (buckets * i head + k) (pos 0))) ≡ row head .rate 1 (i head) k
   rate-is = read-is head (start head .args .rates .now) (c .before .before .sum .given)
 
 -- the product of this turn, and the sum with it
@@ -75,7 +75,7 @@ module _ (c : tie.After-factor Inv-loop μ-loop) where
   factor-fits : SFits w64 (pos (c .factor .result))
   factor-fits = record { sfits = omega (arith, c .factor .ensures .1) }
 
-  product-is : toZ w64 (ofZ w64 (getD (start h .args .cells .now) (19 * i h + k o) (pos 0))) *ℤ toZ w64 (c .factor .result) ≡ weighed (row h) 1 (i h) (k o)
+  product-is : toZ w64 (ofZ w64 (getD (start h .args .cells .now) (buckets * i h + k o) (pos 0))) *ℤ toZ w64 (c .factor .result) ≡ weighed (row h) 1 (i h) (k o)
   product-is =
       ap₂ _*ℤ_ (read-is h (start h .args .cells .now) (c .before .sum2 .given)) (toZ-pos w64 {n = c .factor .result} (factor-fits .sfits) ∙ ap pos factor-is)
 
@@ -154,7 +154,7 @@ loop-again c = rw (product-is c, toZ-ofZ (product-fits c), sum-is c, toZ-ofZ (su
 returns : tie.Need-returns Inv-loop μ-loop
 unfolding value
 returns c =
-    let e : c .before .loop .k ≡ 19 = omega arith in
+    let e : c .before .loop .k ≡ buckets = omega arith in
     rw e at (c .before .loop .inv .1)
 
 pub value-of-spec : {M : Type 1} → statement M

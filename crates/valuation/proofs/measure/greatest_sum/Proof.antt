@@ -4,16 +4,18 @@ use mathlib.Core.Logic.{⊎-elim}
 use mathlib.Core.Path.{_≡_}
 use native.Mathlib.Omega.{arith}
 use borrow.Author.Needs.{needs}
+use Rattle.paper.specs.Records.{currencies}
+use Rattle.paper.specs.Flow.{shocked}
 use Rattle.paper.specs.Verdict.{listed, scenarioSum, measure, worst}
-use Rattle.valuation.proofs.Scan.{reaching, Scanned, scanned-none, scanned-greater, scanned-same}
+use Rattle.laws.proofs.Scan.{reaching, Scanned, scanned-none, scanned-greater, scanned-same}
 use Rattle.valuation.proofs.measure.greatest_sum.Statement.{statement}
 use Rattle.valuation.proofs.measure.greatest_sum.Tie as tie
 
 abbrev Inv-loop : tie.InvT-loop
-Inv-loop changes greatest₀ reached₀ i₀ greatest reached i = (i ≤ 6) × Scanned (scenarioSum (listed changes)) i greatest reached
+Inv-loop changes greatest₀ reached₀ i₀ greatest reached i = (i ≤ shocked) × Scanned (scenarioSum currencies (listed changes)) i greatest reached
 
 abbrev μ-loop : tie.MeasureT-loop
-μ-loop changes greatest₀ reached₀ i₀ greatest reached i = 6 - i
+μ-loop changes greatest₀ reached₀ i₀ greatest reached i = shocked - i
 
 loop-holds : tie.Need-loop-holds Inv-loop μ-loop
 loop-holds c = (omega arith, scanned-none _)
@@ -48,7 +50,7 @@ loop-again c =
 returns : tie.Need-returns Inv-loop μ-loop
 unfolding measure worst reaching
 returns c =
-    let e : c .before .loop .i ≡ 6 = omega arith in
+    let e : c .before .loop .i ≡ shocked = omega arith in
     let s = rw e at (c .before .loop .inv .1) in
     (s .highest-is, s .reached-is)
 

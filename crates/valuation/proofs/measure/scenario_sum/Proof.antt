@@ -10,9 +10,10 @@ use mir.Facts.{toZ-ofZ}
 use borrow.Author.Needs.{needs}
 use Rattle.laws.specs.Integers.{up}
 use Rattle.laws.specs.Sums.{sum}
-use Rattle.laws.proofs.Fits.{sfits-abs, back}
+use Rattle.laws.proofs.Widths.{sfits-abs, back}
 use Rattle.laws.proofs.Sums.{sum-more}
 use Rattle.paper.specs.Records.{currencies}
+use Rattle.paper.specs.Flow.{shocked}
 use Rattle.paper.specs.Verdict.{listed, scenarioSum}
 use Rattle.valuation.proofs.Figures.{listed-at, losses-most}
 use Rattle.valuation.proofs.measure.scenario_sum.Statement.{statement}
@@ -34,7 +35,7 @@ module _ (c : tie.After-positive Inv-loop μ-loop) where
 
   loss-is : c .positive .result ≡ pos (loss (at .loop .c))
   loss-is =
-      let change = getD (at .before .args .changes .now) (6 * at .loop .c + (at .before .args .scenario - 1)) (pos 0) in
+      let change = getD (at .before .args .changes .now) (shocked * at .loop .c + (at .before .args .scenario - 1)) (pos 0) in
       c .positive .ensures ∙ ap (λ (z : ℤ). pos (up z)) (back w64 change (c .before .positive-arg .given) ∙ sym (listed-at _ (at .loop .c) _))
 
   total-is : toZ w64 (at .loop .total) +ℤ c .positive .result ≡ pos (sum loss (at .loop .c + 1))

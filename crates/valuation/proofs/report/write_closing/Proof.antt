@@ -6,10 +6,10 @@ use mir.Syntax.{w64}
 use mir.Val.{toZ, ofZ}
 use mir.Facts.{toZ-pos}
 use borrow.Author.Needs.{needs}
-use Rattle.laws.proofs.Fits.{back}
+use Rattle.laws.proofs.Widths.{back}
+use Rattle.laws.proofs.Filling.{four-stored}
 use Rattle.paper.specs.declared.Verdict.{Verdict}
 use Rattle.paper.specs.Verdict.{verdict, verdictNumber}
-use Rattle.valuation.proofs.Pieces.{four-stored}
 use Rattle.valuation.proofs.report.write_closing.Statement.{statement}
 use Rattle.valuation.proofs.report.write_closing.Tie as tie
 

@@ -1,30 +1,29 @@
 -- `write_sums` meets its contract. The room is filled from the front.
 use Prim.Native.Nat.{_+_, _-_, _≤_}
-use mathlib.Core.Path.{_≡_, sym, ap, _∙_}
+use mathlib.Core.Path.{_≡_, ap, _∙_}
 use native.Mathlib.Omega.{arith}
 use lib.IntN.{pos}
 use lib.ListN.{length}
 use mir.Syntax.{w64}
 use mir.Facts.{toZ-pos}
 use borrow.Author.Needs.{needs}
+use Rattle.laws.proofs.Filling.{Filled, filled-none, filled-next, filled-from}
+use Rattle.paper.specs.Records.{currencies}
+use Rattle.paper.specs.Flow.{shocked}
 use Rattle.paper.specs.Verdict.{listed, scenarioSum}
 use Rattle.valuation.proofs.Figures.{scenario-sum-most}
-use Rattle.valuation.proofs.Filled.{filled, filled-none, filled-more, filled-length, filled-all}
 use Rattle.valuation.proofs.report.write_sums.Statement.{statement}
 use Rattle.valuation.proofs.report.write_sums.Tie as tie
 
 abbrev Inv-loop : tie.InvT-loop
-Inv-loop changes room₀ i₀ room i = (i ≤ 6) × (room ≡ filled (λ k. pos (scenarioSum (listed changes) k)) 1 i room₀)
+Inv-loop changes room₀ i₀ room i =
+    (i ≤ shocked) × (length room ≡ shocked) × Filled (pos 0) i (λ j. pos (scenarioSum currencies (listed changes) (j + 1))) room
 
 abbrev μ-loop : tie.MeasureT-loop
-μ-loop changes room₀ i₀ room i = 6 - i
-
--- the room's length at the loop's head
-long : (c : tie.At-loop Inv-loop μ-loop) → length (c .loop .room) ≡ 6
-long c = filled-length _ 1 (c .loop .i) _ (c .loop .inv .1) (omega arith) ∙ c .before .pre .0
+μ-loop changes room₀ i₀ room i = shocked - i
 
 loop-holds : tie.Need-loop-holds Inv-loop μ-loop
-loop-holds c = (omega arith, sym (filled-none _ 1 _))
+loop-holds c = (search needs, search needs, filled-none (pos 0) _ (c .args .room .now))
 
 add-scenario-sum : tie.Need-add-scenario-sum Inv-loop μ-loop
 add-scenario-sum c = search needs
@@ -40,7 +39,7 @@ mul-t8 : tie.Need-mul-t8 Inv-loop μ-loop
 mul-t8 c = search needs
 
 slice-set-from-room : tie.Need-slice-set-from-room Inv-loop μ-loop
-slice-set-from-room c = omega (arith, long (c .before .before))
+slice-set-from-room c = search needs
 
 add-i : tie.Need-add-i Inv-loop μ-loop
 add-i c = search needs
@@ -50,18 +49,15 @@ loop-less c = search needs
 
 loop-again : tie.Need-loop-again Inv-loop μ-loop
 loop-again c =
-    let at = c .before .before in
-    let next : at .loop .i + 1 ≡ 1 + at .loop .i = omega arith in
-    let same = toZ-pos w64 {n = c .scenario-sum .result} (cast-room c .sfits) ∙ ap pos (c .scenario-sum .ensures ∙ ap (scenarioSum _) next) in
-    (omega arith, filled-more _ 1 (at .loop .i) _ (at .loop .inv .1) same (omega arith))
+    let at = c .before .before .loop in
+    let sum-is = toZ-pos w64 {n = c .scenario-sum .result} (cast-room c .sfits) ∙ ap pos (c .scenario-sum .ensures) in
+    (search needs, search needs, filled-next (pos 0) _ (at .room) (at .i) _ (at .inv .2) sum-is (search needs))
 
 same-length : tie.Need-same-length Inv-loop μ-loop
-same-length c = long (c .before) ∙ sym (c .before .before .pre .0)
+same-length c = search needs
 
 returns : tie.Need-returns Inv-loop μ-loop
-returns c =
-    let e : c .before .loop .i ≡ 6 = omega arith in
-    filled-all _ 1 6 _ (rw e at (c .before .loop .inv .1)) (c .before .before .pre .0)
+returns c = let at = c .before .loop in filled-from (pos 0) _ 1 (at .room) shocked (at .inv .1) (λ j o. at .inv .2 j (omega arith))
 
 pub write-sums-spec : {M : Type 1} → statement M
 write-sums-spec =

@@ -9,7 +9,7 @@ use mir.Syntax.{w64}
 use mir.Val.{SFits, toZ, ofZ}
 use mir.Facts.{toZ-ofZ, toZ-pos}
 use borrow.Author.Needs.{needs}
-use Rattle.laws.proofs.Fits.{Small, small-pos, small-le, small-add, small-sub, small-mul, small-fits}
+use Rattle.laws.proofs.Widths.{Small, small-pos, small-le, small-add, small-sub, small-mul, small-fits}
 use Rattle.paper.specs.declared.Verdict.the-variants.{Over, Within, Close}
 use Rattle.paper.specs.Verdict.{verdict}
 use Rattle.valuation.specs.Figures.{mostOfASum}

@@ -1,0 +1,204 @@
+-- A turn of the walk: what the reader finds at a place is what the paper's tests say of it.
+use Prim.Native.Nat.{ℕ, suc, _+_, _-_, _≤_, _<_}
+use mathlib.Core.Bool.{Bool, true, false}
+use mathlib.Core.List.{List}
+use mathlib.Core.Path.{_≡_, refl, sym, ap, ap₂, _∙_}
+use native.Mathlib.Omega.{arith}
+use borrow.Author.Tests.{ltb-false, eqb-false}
+use lib.ListN.{length, take, drop}
+use Rattle.laws.specs.Tests.{if_then_else_, _upTo_}
+use Rattle.laws.proofs.Sections.{length-section}
+use Rattle.paper.specs.declared.Refusal.the-variants as refusal
+use Rattle.paper.specs.declared.Fault.{Fault}
+use Rattle.paper.specs.Refusals.{Checked, accepted, refused, _>>=_, _>>_, unless}
+use Rattle.paper.specs.Records.{Record, bodyLength, currencyOf, isCurve, curveKind, currencies}
+use Rattle.paper.specs.Ledger.{SoFar}
+use Rattle.paper.specs.TurnedDown.{unknownKind, cutShort}
+use Rattle.paper.specs.Fields.{byte, currencyAt}
+use Rattle.paper.specs.Book.{placed, admitted, recordAt, nextAt}
+use Rattle.paper.proofs.Known.{known-of, chain, unless-known}
+use Rattle.paper.proofs.KindLaws.{first-field}
+use Rattle.arrays.specs.declared.masks.Masks.{Masks}
+use Rattle.arrays.specs.Masks.{markedBy}
+use Rattle.arrays.specs.Arrays.{Arrays, Holding}
+use Rattle.posting.specs.declared.Taken.{Taken}
+use Rattle.posting.specs.declared.Taken.the-variants as taken
+use Rattle.slotting.specs.Answers.{takenOf}
+use Rattle.load.specs.declared.turn.Step.{Step}
+use Rattle.load.specs.declared.turn.Step.the-variants as step
+use Rattle.load.specs.declared.reader.Found.{Found}
+use Rattle.load.specs.declared.reader.Found.the-variants as found
+use Rattle.load.specs.Reader.{standsAt}
+use Rattle.load.specs.Step.{RecordTaken, faultAt, stepped, Stepped, Turned}
+
+-- ---- an answer of the reader, back to the tests
+
+module _ (kind start next : ℕ) where
+  abbrev tested : (over unknown cut : Bool) → Found
+  tested over unknown cut = if over then found.End else if unknown then found.UnknownKind else if cut then found.CutShort else found.Record kind start next
+
+  ends : (over unknown cut : Bool) → found.End ≡ tested over unknown cut → over ≡ true
+  ends true unknown cut e = refl
+  ends false true cut e = let z : _≡_ {A = ℕ} 0 1 = cc in absurd (omega arith)
+  ends false false true e = let z : _≡_ {A = ℕ} 0 1 = cc in absurd (omega arith)
+  ends false false false e = let z : _≡_ {A = ℕ} 0 1 = cc in absurd (omega arith)
+
+  no-kind : (over unknown cut : Bool) → found.UnknownKind ≡ tested over unknown cut → (over ≡ false) × (unknown ≡ true)
+  no-kind true unknown cut e = let z : _≡_ {A = ℕ} 0 1 = cc in absurd (omega arith)
+  no-kind false true cut e = (refl, refl)
+  no-kind false false true e = let z : _≡_ {A = ℕ} 0 1 = cc in absurd (omega arith)
+  no-kind false false false e = let z : _≡_ {A = ℕ} 0 1 = cc in absurd (omega arith)
+
+  cut-off : (over unknown cut : Bool) → found.CutShort ≡ tested over unknown cut → (over ≡ false) × (unknown ≡ false) × (cut ≡ true)
+  cut-off true unknown cut e = let z : _≡_ {A = ℕ} 0 1 = cc in absurd (omega arith)
+  cut-off false true cut e = let z : _≡_ {A = ℕ} 0 1 = cc in absurd (omega arith)
+  cut-off false false true e = (refl, refl, refl)
+  cut-off false false false e = let z : _≡_ {A = ℕ} 0 1 = cc in absurd (omega arith)
+
+  -- a whole record, and where it lies
+  pub record Lies (k s n : ℕ) (over unknown cut : Bool) : Type 0 where
+    pub goes-on : over ≡ false
+    pub known : unknown ≡ false
+    pub whole : cut ≡ false
+    pub kind-is : k ≡ kind
+    pub start-is : s ≡ start
+    pub next-is : n ≡ next
+
+  lies : (k s n : ℕ) (over unknown cut : Bool) → found.Record k s n ≡ tested over unknown cut → Lies k s n over unknown cut
+  lies k s n true unknown cut e = let z : _≡_ {A = ℕ} 0 1 = cc in absurd (omega arith)
+  lies k s n false true cut e = let z : _≡_ {A = ℕ} 0 1 = cc in absurd (omega arith)
+  lies k s n false false true e = let z : _≡_ {A = ℕ} 0 1 = cc in absurd (omega arith)
+  lies k s n false false false e = record { goes-on = refl; known = refl; whole = refl; kind-is = cc; start-is = cc; next-is = cc }
+
+-- ---- the place
+
+-- a whole body of a known kind, from s up to n
+pub record InBook (book : List ℕ) (k s n : ℕ) : Type 0 where
+  pub starts : s ≤ n
+  pub ends : n ≤ length book
+  pub long : length (take (n - s) (drop s book)) ≡ bodyLength k
+  pub known : unknownKind k ≡ false
+
+module _ (book : List ℕ) (at : ℕ) where
+  abbrev kind : ℕ
+  kind = byte book at
+
+  abbrev over : Bool
+  over = length book upTo at
+
+  abbrev cut : Bool
+  cut = cutShort kind at (length book)
+
+  module _ (k s n : ℕ) (e : found.Record k s n ≡ standsAt book at) where
+    found-lies : Lies kind (suc at) (nextAt book at) k s n over (unknownKind kind) cut
+    unfolding standsAt
+    found-lies = lies kind (suc at) (nextAt book at) k s n over (unknownKind kind) cut e
+
+    -- the bytes that the reader points at are the paper's body
+    same-body : n - s ≡ bodyLength kind
+    unfolding nextAt
+    same-body = omega (arith, found-lies .next-is, found-lies .start-is)
+
+    -- they lie in the book, as many as the kind has
+    pub in-book : InBook book k s n
+    unfolding nextAt cutShort
+    in-book =
+        let f = found-lies in
+        let within : suc at + bodyLength kind ≤ length book = ltb-false (length book) (suc at + bodyLength kind) (f .whole) in record {
+          starts = omega (arith, f .next-is, f .start-is);
+          ends = omega (arith, f .next-is, within);
+          long = rw same-body (length-section s (bodyLength kind) book (omega (arith, f .start-is, within))) ∙ sym (ap bodyLength (f .kind-is));
+          known = ap unknownKind (f .kind-is) ∙ f .known;
+        }
+
+-- ---- the turn
+
+module _ (before : SoFar) (book : List ℕ) (at : ℕ) (m : Masks) (a : Arrays) where
+  abbrev Turn : Step → Arrays → Type 0
+  Turn answer a' = Turned (length book upTo at) (recordAt currencies before book at) (nextAt book at) m a answer a'
+
+  pub turn-end : found.End ≡ standsAt book at → Turn step.End a
+  unfolding standsAt
+  turn-end e = rw (ends (kind book at) (suc at) (nextAt book at) (over book at) (unknownKind (kind book at)) (cut book at) e) (record { answered = refl; arrays = refl })
+
+  pub turn-unknown : found.UnknownKind ≡ standsAt book at → Turn (step.Refused (record { cause = refusal.UnknownKind; place = at })) a
+  unfolding standsAt recordAt placed unless _>>_
+  turn-unknown e = let f = no-kind (kind book at) (suc at) (nextAt book at) (over book at) (unknownKind (kind book at)) (cut book at) e in rw (f .0, f .1) (record { answered = refl; arrays = refl })
+
+  pub turn-cut : found.CutShort ≡ standsAt book at → Turn (step.Refused (record { cause = refusal.CutShort; place = at })) a
+  unfolding standsAt recordAt placed unless _>>_
+  turn-cut e =
+      let f = cut-off (kind book at) (suc at) (nextAt book at) (over book at) (unknownKind (kind book at)) (cut book at) e in
+      rw (f .0, f .1, f .2) (record { answered = refl; arrays = refl })
+
+  pub turn-record : (k s n : ℕ) → found.Record k s n ≡ standsAt book at → {answer : Step} {a' : Arrays}
+      → Stepped (placed at (admitted currencies before k (take (n - s) (drop s book)))) n m a answer a' → Turn answer a'
+  unfolding recordAt unless _>>_
+  turn-record k s n e t =
+      let f = found-lies book at k s n e in
+      let u = rw (same-body book at k s n e, f .kind-is, f .start-is, f .next-is) at t in
+      rw (f .goes-on, f .known, f .whole) (record { answered = u .answered; arrays = u .arrays })
+
+-- ---- a whole body of a known kind
+
+pub known-long : (kind : ℕ) → unknownKind kind ≡ false → 0 < bodyLength kind
+unfolding unknownKind
+known-long kind e = omega (arith, eqb-false (bodyLength kind) 0 e)
+
+-- reading a body asks nothing of the currencies used
+pub curves-hold : {m : Masks} {a : Arrays} → Holding m a → Holding (record { used = 0; curved = m .curved }) a
+curves-hold h = record { sized = h .sized; used-small = omega arith; curved-small = h .curved-small; bare = h .bare }
+
+module _ (before : SoFar) (kind at next c : ℕ) (body : List ℕ) (m : Masks) (a : Arrays) (sort : unknownKind kind ≡ false) where
+  abbrev read : Checked Record
+  read = admitted currencies before kind body
+
+  -- its currency is bad
+  pub stepped-bad : (f : Fault) → currencyAt currencies body 0 ≡ refused (f .cause) (f .place)
+      → Stepped (placed at read) next m a (step.Refused (faultAt at f)) a
+  unfolding admitted _>>=_ placed
+  stepped-bad f e = rw (first-field currencies (before .curved) kind body .refuses sort (f .cause) (f .place) e) (record { answered = refl; arrays = refl })
+
+  refused-taken : (x : Checked Record) (f : Fault) → taken.Refused f ≡ takenOf x → x ≡ refused (f .cause) (f .place)
+  refused-taken (accepted r) f e = let z : _≡_ {A = ℕ} 0 1 = cc in absurd (omega arith)
+  refused-taken (refused q place) f e = let same : f ≡ record { cause = q; place = place } = cc in sym (ap (λ (g : Fault). refused (g .cause) (g .place)) same)
+
+  done-taken : (x : Checked Record) → taken.Done ≡ takenOf x → (r : Record) × (x ≡ accepted r)
+  done-taken (accepted r) e = (r, refl)
+  done-taken (refused q place) e = let z : _≡_ {A = ℕ} 0 1 = cc in absurd (omega arith)
+
+  -- it is refused for another cause
+  pub stepped-refused : (f : Fault) {answer : Taken} {a' : Arrays} → RecordTaken read a answer a' → answer ≡ taken.Refused f → Stepped (placed at read) next m a (step.Refused (faultAt at f)) a'
+  unfolding placed
+  stepped-refused f t e =
+      let is-refused = refused-taken read f (sym e ∙ t .answered) in
+      rw is-refused (record { answered = refl; arrays = rw is-refused at (t .arrays) })
+
+  -- it is taken, and its currency marked
+  pub stepped-done : currencyAt currencies body 0 ≡ accepted c → {answer : Taken} {a' : Arrays} {m' : Masks} → RecordTaken read a answer a' → answer ≡ taken.Done → m' ≡ markedBy (curveKind kind) c m
+      → Stepped (placed at read) next m a (step.On next m') a'
+  unfolding admitted placed
+  stepped-done first t e marks =
+      let d = done-taken read (sym e ∙ t .answered) in
+      let own : currencyAt currencies body 0 ≡ accepted (currencyOf (d .0)) = known-of (chain (first-field currencies (before .curved) kind body .own) (λ r h. unless-known _ _ _ _ r (λ _. h))) (d .0) (d .1) in
+      let sorts : isCurve (d .0) ≡ curveKind kind = known-of (chain (first-field currencies (before .curved) kind body .marks) (λ r h. unless-known _ _ _ _ r (λ _. h))) (d .0) (d .1) in
+      let mine : c ≡ currencyOf (d .0) = cc in
+      rw (d .1) (record {
+        answered = ap (step.On next) (marks ∙ ap₂ (λ (b : Bool) (n : ℕ). markedBy b n m) (sym sorts) mine);
+        arrays = rw (d .1) at (t .arrays);
+      })
+
+-- ---- and what a turn says
+
+module _ (read : Checked Record) (next : ℕ) (m : Masks) (a : Arrays) (answer : Step) (a' : Arrays) where
+  step-ends : (x : Checked Record) → step.End ≡ stepped x next m → ⊥
+  step-ends (accepted r) e = let z : _≡_ {A = ℕ} 0 1 = cc in absurd (omega arith)
+  step-ends (refused q place) e = let z : _≡_ {A = ℕ} 0 1 = cc in absurd (omega arith)
+
+  pub is-over : (over : Bool) → Turned over read next m a answer a' → answer ≡ step.End → (over ≡ true) × (a' ≡ a)
+  is-over true t e = (refl, t .arrays)
+  is-over false t e = absurd (step-ends read (sym e ∙ t .answered))
+
+  pub is-step : (over : Bool) → Turned over read next m a answer a' → (answer ≡ step.End → ⊥) → (over ≡ false) × Stepped read next m a answer a'
+  is-step true t f = absurd (f (t .answered))
+  is-step false t f = (refl, record { answered = t .answered; arrays = t .arrays })

@@ -1,0 +1,146 @@
+-- `take_record`: the currency is bad, the record refused, or taken.
+use Prim.Native.Nat.{ℕ}
+use mathlib.Core.Bool.{Bool}
+use mathlib.Core.List.{List}
+use mathlib.Core.Path.{_≡_, ap, _∙_}
+use native.Mathlib.Omega.{arith}
+use borrow.Author.Needs.{needs}
+use Rattle.paper.specs.Refusals.{accepted}
+use Rattle.paper.specs.Records.{currencies}
+use Rattle.paper.specs.Fields.{currencyAt}
+use Rattle.paper.specs.Sound.{Between}
+use Rattle.paper.proofs.Known.{known-of, field-known}
+use Rattle.paper.proofs.Ranges.{currency-range}
+use Rattle.arrays.specs.Masks.{markedBy}
+use Rattle.record.proofs.Reading.{value, bad}
+use Rattle.load.specs.Step.{faultAt}
+use Rattle.load.proofs.TurnLaws.{known-long, curves-hold, stepped-bad, stepped-refused, stepped-done}
+use Rattle.load.proofs.turn.take_record.Statement.{statement}
+use Rattle.load.proofs.turn.take_record.Tie as tie
+
+-- what is known once the currency has been read
+module _ (c : tie.After-known-told) where
+  abbrev body : List ℕ
+  body = c .before .before .before .before .before .before .before .args .body .now
+
+  abbrev currency : ℕ
+  currency = c .before .read .given .0 .0
+
+  first : currencyAt currencies body 0 ≡ accepted currency
+  first = value (c .before .before .before .currency-at .ensures) (c .before .read .given .1)
+
+  range : Between 1 currencies currency
+  range = known-of (field-known (currency-range currencies) _ _ _) currency first
+
+currency-at-requires : tie.Need-currency-at-requires
+currency-at-requires c κs = let s = c .before .before .before in omega (arith, s .pre .0 .0, known-long (s .args .kind) (s .pre .0 .1))
+
+enum-known-read : tie.Need-enum-known-read
+enum-known-read c = search needs
+
+enum-told : tie.Need-enum-told
+enum-told c = search needs
+
+fault-requires : tie.Need-fault-requires
+fault-requires c κs = search needs
+
+placed-requires : tie.Need-placed-requires
+placed-requires c κs = search needs
+
+returns : tie.Need-returns
+returns c =
+    let s = c .before .before .before .before .before .before .before .before in
+    rw (c .placed .ensures)
+    (stepped-bad _ (s .args .kind) (s .args .at) _ 0 _ _ _ (s .pre .0 .1) _ (bad (c .before .before .before .before .currency-at .ensures) (c .before .before .enum-told .given .1) (c .before .fault .ensures)))
+
+take-parts-requires : tie.Need-take-parts-requires
+take-parts-requires c κs =
+    let w = c .before .before .before .before .before in
+    let s = w .before .before .before .before .before .before .before in
+    ((record { long = s .pre .0 .0; first = first w }, range w .from, range w .to), curves-hold (s .pre .1))
+
+enum-known-fault : tie.Need-enum-known-fault
+enum-known-fault c = search needs
+
+placed-requires-2 : tie.Need-placed-requires-2
+placed-requires-2 c κs = search needs
+
+enum-told-2 : tie.Need-enum-told-2
+enum-told-2 c = search needs
+
+curve-kind-requires : tie.Need-curve-kind-requires
+curve-kind-requires c κs = search needs
+
+marked-requires : tie.Need-marked-requires
+marked-requires c κs = let r = range (c .before .before .before .before .before .before .before .before .before .before .before .before .before .before .before .before) in (r .from, r .to)
+
+same-length : tie.Need-same-length
+same-length c = search needs
+
+same-length-2 : tie.Need-same-length-2
+same-length-2 c = search needs
+
+same-length-3 : tie.Need-same-length-3
+same-length-3 c = search needs
+
+same-length-4 : tie.Need-same-length-4
+same-length-4 c = search needs
+
+same-length-5 : tie.Need-same-length-5
+same-length-5 c = search needs
+
+returns-2 : tie.Need-returns-2
+returns-2 c =
+    let s = c .before .before .before .before .before .before .before .before .before .before .before .before .before .before .before .before .before .before .before .before .before .before .before .before in
+    rw (c .placed2 .ensures) (stepped-refused _ (s .args .kind) (s .args .at) _ 0 _ _ _ (s .pre .0 .1) _ (c .before .before .before .before .before .before .before .before .before .before .before .take-parts .ensures) (c .before .before .fault2 .given .1))
+
+same-length-6 : tie.Need-same-length-6
+same-length-6 c = search needs
+
+same-length-7 : tie.Need-same-length-7
+same-length-7 c = search needs
+
+same-length-8 : tie.Need-same-length-8
+same-length-8 c = search needs
+
+same-length-9 : tie.Need-same-length-9
+same-length-9 c = search needs
+
+same-length-10 : tie.Need-same-length-10
+same-length-10 c = search needs
+
+returns-3 : tie.Need-returns-3
+returns-3 c =
+    let s = c .before .before .before .before .before .before .before .before .before .before .before .before .before .before .before .before .before .before .before .before .before .before .before .before in
+    let w = c .before .before .before .before .before .before .before .before .before .before .before .before .before .before .before .before .before in
+    stepped-done _ (s .args .kind) (s .args .at) _ (currency w) _ _ _ (s .pre .0 .1) (first w) (c .before .before .before .before .before .before .before .before .before .before .before .take-parts .ensures) (c .before .before .enum-told2 .given .1)
+    (c .marked .ensures ∙ ap (λ (b : Bool). markedBy b (currency w) (s .args .masks)) (c .before .curve-kind .ensures))
+
+pub take-record-spec : {M : Type 1} → statement M
+take-record-spec =
+    tie.close
+    (tie.spec
+    currency-at-requires
+    enum-known-read
+    enum-told
+    fault-requires
+    placed-requires
+    returns
+    take-parts-requires
+    enum-known-fault
+    placed-requires-2
+    enum-told-2
+    curve-kind-requires
+    marked-requires
+    same-length
+    same-length-2
+    same-length-3
+    same-length-4
+    same-length-5
+    returns-2
+    same-length-6
+    same-length-7
+    same-length-8
+    same-length-9
+    same-length-10
+    returns-3)

@@ -1,0 +1,54 @@
+-- What a turn of the walk answers and leaves, by what was read at its place. A refused record changes nothing.
+use Prim.Native.Nat.{ℕ}
+use mathlib.Core.Bool.{Bool}
+use mathlib.Core.Path.{_≡_}
+use Rattle.laws.specs.Tests.{if_then_else_}
+use Rattle.paper.specs.declared.Fault.{Fault}
+use Rattle.paper.specs.Refusals.{Checked, accepted, refused}
+use Rattle.paper.specs.Records.{Record}
+use Rattle.arrays.specs.declared.masks.Masks.{Masks}
+use Rattle.arrays.specs.Masks.{marked}
+use Rattle.arrays.specs.Arrays.{Arrays, inParts, withRecord}
+use Rattle.posting.specs.declared.Taken.{Taken}
+use Rattle.slotting.specs.Answers.{takenOf}
+use Rattle.load.specs.declared.turn.Step.{Step}
+use Rattle.load.specs.declared.turn.Step.the-variants.{On, Refused, End}
+
+-- ---- a body, in its currency's own parts
+
+abbrev pub enteredIn : Checked Record → Arrays → Arrays
+enteredIn (accepted r) p = inParts r p
+enteredIn (refused q place) p = p
+
+pub record BodyTaken (read : Checked Record) (p : Arrays) (answer : Taken) (p' : Arrays) : Type 0 where
+  pub answered : answer ≡ takenOf read
+  pub parts : p' ≡ enteredIn read p
+
+-- ---- and in the arrays
+
+abbrev pub entered : Checked Record → Arrays → Arrays
+entered (accepted r) a = withRecord r a
+entered (refused q place) a = a
+
+pub record RecordTaken (read : Checked Record) (a : Arrays) (answer : Taken) (a' : Arrays) : Type 0 where
+  pub answered : answer ≡ takenOf read
+  pub arrays : a' ≡ entered read a
+
+-- ---- a turn
+
+-- where a fault is told: the paper's `placed`
+abbrev pub faultAt : ℕ → Fault → Fault
+faultAt at f = record { cause = f .cause; place = at }
+
+abbrev pub stepped : Checked Record → ℕ → Masks → Step
+stepped (accepted r) next m = On next (marked r m)
+stepped (refused q place) next m = Refused (record { cause = q; place = place })
+
+pub record Stepped (read : Checked Record) (next : ℕ) (m : Masks) (a : Arrays) (answer : Step) (a' : Arrays) : Type 0 where
+  pub answered : answer ≡ stepped read next m
+  pub arrays : a' ≡ entered read a
+
+-- the same at a place where the book may be over: there nothing changes
+pub record Turned (over : Bool) (read : Checked Record) (next : ℕ) (m : Masks) (a : Arrays) (answer : Step) (a' : Arrays) : Type 0 where
+  pub answered : answer ≡ (if over then End else stepped read next m)
+  pub arrays : a' ≡ (if over then a else entered read a)

@@ -1,0 +1,46 @@
+// The book is walked record by record, first byte to last: a reader holds the lent book and its position. Its functions take it apart; the work is done on
+// slice and number by `kinds::stands_at`, and other callers have `found_at`.
+ghost use mathlib.Core.Path.{_≡_};
+ghost use Rattle.load.specs.Reader.{standsAt};
+use crate::kinds::stands_at;
+
+pub struct Reader<'a> {
+    pub book: &'a [u8],
+    pub at: usize,
+}
+
+// What stands at a position. A record is told by its kind, where its body begins, and where it ends, which is the place of the next.
+pub enum Found {
+    End,
+    UnknownKind,
+    CutShort,
+    Record(u8, usize, usize),
+}
+
+pub fn new<'a>(book: &'a [u8]) -> Reader<'a>
+    ensures { λ r. ⌜ (r .book ≡ book .entry) × (r .at ≡ 0) ⌝ }
+{
+    Reader { book, at: 0 }
+}
+
+pub fn next<'a>(reader: Reader<'a>) -> Found
+    ensures { λ r. ⌜ r ≡ standsAt (now (reader .entry .book)) (reader .entry .at) ⌝ }
+{
+    stands_at(reader.book, reader.at)
+}
+
+// Past a record: to where it ends.
+pub fn moved<'a>(reader: Reader<'a>, past: usize) -> Reader<'a>
+    ensures { λ r. ⌜ (r .book ≡ reader .entry .book) × (r .at ≡ past) ⌝ }
+{
+    Reader {
+        book: reader.book,
+        at: past,
+    }
+}
+
+pub fn found_at(book: &[u8], at: usize) -> Found
+    ensures { λ r. ⌜ r ≡ standsAt (now (book .entry)) at ⌝ }
+{
+    next(moved(new(book), at))
+}

@@ -1,0 +1,156 @@
+// One turn of the walk. Every kind's body begins with its currency: it is read once, before the kind is looked at, and that currency's parts of the five arrays are
+// lent on in one call.
+ghost use mathlib.Core.Bool.{false};
+ghost use mathlib.Core.Path.{_≡_};
+ghost use Prim.Native.Nat.{_≤_};
+ghost use lib.ListN.{length};
+ghost use Rattle.laws.specs.Tests.{_upTo_};
+ghost use Rattle.paper.specs.Records.{currencies, bodyLength};
+ghost use Rattle.paper.specs.TurnedDown.{unknownKind};
+ghost use Rattle.paper.specs.Book.{placed, admitted, recordAt, nextAt};
+ghost use Rattle.arrays.specs.Rooms.{soFarBy};
+ghost use Rattle.arrays.specs.Arrays.{Holding, arraysAs};
+ghost use Rattle.record.specs.Answers.{Body};
+ghost use Rattle.load.specs.Step.{RecordTaken, Stepped, Turned, faultAt};
+use crate::kinds::curve_kind;
+use crate::kinds::take_body;
+use crate::reader::Found;
+use crate::reader::found_at;
+use arrays::masks::Masks;
+use arrays::masks::has_curve;
+use arrays::masks::marked;
+use paper::Fault;
+use paper::Refusal;
+use paper::SCENARIOS;
+use paper::SECTION;
+use paper::SHOCKED;
+use posting::Taken;
+use record::fields::Field;
+use record::fields::currency_at;
+
+// A record is taken, and the walk goes on at the next with these masks; or it is refused; or the book is at its end.
+pub enum Step {
+    On(usize, Masks),
+    Refused(Fault),
+    End,
+}
+
+// The place is the record's first byte, whichever field is at fault.
+fn placed(fault: Fault, at: usize) -> Fault
+    ensures { λ r. ⌜ r ≡ faultAt at fault ⌝ }
+{
+    let cause = fault.cause;
+    Fault { cause, place: at }
+}
+
+fn take_parts(
+    kind: u8,
+    currency: u32,
+    curved: u32,
+    body: &[u8],
+    ledger: &mut [i64],
+    rates: &mut [i64],
+    addons: &mut [i64],
+    sizes: &mut [u64],
+    options: &mut [u64],
+) -> Taken
+    requires { ⌜ Body (bodyLength kind) currency (now body) × (1 ≤ currency) × (currency ≤ currencies) ⌝ }
+    requires { ⌜ Holding (record { used = 0; curved = curved }) (arraysAs (now ledger) (now rates) (now addons) (now sizes) (now options)) ⌝ }
+    ensures { λ r. ⌜ RecordTaken (admitted currencies (soFarBy curved (now (sizes .entry)) (now (options .entry))) kind (now (body .entry))) (arraysAs (now (ledger .entry)) (now (rates .entry)) (now (addons .entry)) (now (sizes .entry)) (now (options .entry))) r (arraysAs (now (ledger .exit)) (now (rates .exit)) (now (addons .exit)) (now (sizes .exit)) (now (options .exit))) ⌝ }
+{
+    let part = currency as usize - 1;
+    let cell = SECTION * part;
+    let cells = cell + SECTION;
+    let six = SHOCKED * part;
+    let sixes = six + SHOCKED;
+    let size = SCENARIOS * part;
+    let sums = size + SCENARIOS;
+    take_body(
+        kind,
+        currency,
+        has_curve(curved, currency),
+        body,
+        &mut ledger[cell..cells],
+        &mut rates[cell..cells],
+        &mut addons[six..sixes],
+        &mut sizes[size..sums],
+        &mut options[six..sixes],
+    )
+}
+
+// A whole body of a known kind.
+fn take_record(
+    kind: u8,
+    body: &[u8],
+    at: usize,
+    next: usize,
+    masks: Masks,
+    ledger: &mut [i64],
+    rates: &mut [i64],
+    addons: &mut [i64],
+    sizes: &mut [u64],
+    options: &mut [u64],
+) -> Step
+    requires { ⌜ (length (now body) ≡ bodyLength kind) × (unknownKind kind ≡ false) ⌝ }
+    requires { ⌜ Holding masks (arraysAs (now ledger) (now rates) (now addons) (now sizes) (now options)) ⌝ }
+    ensures { λ r. ⌜ Stepped (placed at (admitted currencies (soFarBy (masks .curved) (now (sizes .entry)) (now (options .entry))) kind (now (body .entry)))) next masks (arraysAs (now (ledger .entry)) (now (rates .entry)) (now (addons .entry)) (now (sizes .entry)) (now (options .entry))) r (arraysAs (now (ledger .exit)) (now (rates .exit)) (now (addons .exit)) (now (sizes .exit)) (now (options .exit))) ⌝ }
+{
+    let read = currency_at(body, 0);
+    let Field::Value(currency) = read else {
+        return Step::Refused(placed(read.fault(), at));
+    };
+    let curved = masks.curved;
+    match take_parts(
+        kind,
+        currency,
+        curved,
+        body,
+        ledger,
+        rates,
+        addons,
+        sizes,
+        options,
+    ) {
+        Taken::Refused(fault) => Step::Refused(placed(fault, at)),
+        Taken::Done => Step::On(next, marked(masks, curve_kind(kind), currency)),
+    }
+}
+
+// What the reader finds at a place: the end, 1, 2, or a whole body.
+pub fn turn(
+    book: &[u8],
+    at: usize,
+    masks: Masks,
+    ledger: &mut [i64],
+    rates: &mut [i64],
+    addons: &mut [i64],
+    sizes: &mut [u64],
+    options: &mut [u64],
+) -> Step
+    requires { ⌜ Holding masks (arraysAs (now ledger) (now rates) (now addons) (now sizes) (now options)) ⌝ }
+    ensures { λ r. ⌜ Turned (length (now (book .entry)) upTo at) (recordAt currencies (soFarBy (masks .curved) (now (sizes .entry)) (now (options .entry))) (now (book .entry)) at) (nextAt (now (book .entry)) at) masks (arraysAs (now (ledger .entry)) (now (rates .entry)) (now (addons .entry)) (now (sizes .entry)) (now (options .entry))) r (arraysAs (now (ledger .exit)) (now (rates .exit)) (now (addons .exit)) (now (sizes .exit)) (now (options .exit))) ⌝ }
+{
+    match found_at(book, at) {
+        Found::End => Step::End,
+        Found::UnknownKind => Step::Refused(Fault {
+            cause: Refusal::UnknownKind,
+            place: at,
+        }),
+        Found::CutShort => Step::Refused(Fault {
+            cause: Refusal::CutShort,
+            place: at,
+        }),
+        Found::Record(kind, start, next) => take_record(
+            kind,
+            &book[start..next],
+            at,
+            next,
+            masks,
+            ledger,
+            rates,
+            addons,
+            sizes,
+            options,
+        ),
+    }
+}

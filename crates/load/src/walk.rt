@@ -1,0 +1,44 @@
+// The walk over the book: its records from the first byte on, until they end or one is refused.
+ghost use mathlib.Core.List.{[]};
+ghost use mathlib.Core.Path.{_≡_};
+ghost use Rattle.arrays.specs.Arrays.{arraysOf, arraysAs};
+ghost use Rattle.load.specs.Walk.{Walks};
+use crate::turn::Step;
+use crate::turn::turn;
+use arrays::masks::Masks;
+use paper::Fault;
+
+// All records are kept, with the currencies that they use and curve; or one is refused.
+pub enum Walked {
+    All(Masks),
+    Refused(Fault),
+}
+
+pub fn walk(
+    book: &[u8],
+    ledger: &mut [i64],
+    rates: &mut [i64],
+    addons: &mut [i64],
+    sizes: &mut [u64],
+    options: &mut [u64],
+) -> Walked
+    requires { ⌜ arraysAs (now ledger) (now rates) (now addons) (now sizes) (now options) ≡ arraysOf [] ⌝ }
+    ensures { λ r. ⌜ Walks (now (book .entry)) r (arraysAs (now (ledger .exit)) (now (rates .exit)) (now (addons .exit)) (now (sizes .exit)) (now (options .exit))) ⌝ }
+{
+    let mut at = 0;
+    let mut masks = Masks { used: 0, curved: 0 };
+    loop {
+        match turn(book, at, masks, ledger, rates, addons, sizes, options) {
+            Step::End => {
+                return Walked::All(masks);
+            }
+            Step::Refused(fault) => {
+                return Walked::Refused(fault);
+            }
+            Step::On(next, marks) => {
+                at = next;
+                masks = marks;
+            }
+        }
+    }
+}

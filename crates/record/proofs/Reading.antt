@@ -1,0 +1,109 @@
+-- What a reader's contract and a match on its answer tell together: of a field, and of a body decoded up to a field.
+use Prim.Native.Nat.{ℕ, suc, _+_, _*_, _≤_, _<_}
+use mathlib.Core.Bool.{Bool, true, false}
+use mathlib.Core.List.{List}
+use mathlib.Core.Path.{_≡_, refl, sym, ap, _∙_}
+use native.Mathlib.Omega.{arith}
+use borrow.Author.Tests.{lt-ltb, le-ltb}
+use lib.IntN.{ℤ}
+use Rattle.laws.specs.Tests.{_below_}
+use Rattle.paper.specs.declared.Refusal.{Refusal}
+use Rattle.paper.specs.declared.Fault.{Fault}
+use Rattle.paper.specs.Ladder.{buckets}
+use Rattle.paper.specs.Refusals.{Checked, accepted, refused, _>>=_, _>>_, unless, refuseIf}
+use Rattle.paper.specs.Records.{Record, currencies}
+use Rattle.paper.specs.Fields.{currencyAt}
+use Rattle.record.specs.declared.fields.Field.{Field}
+use Rattle.record.specs.declared.fields.Field.the-variants as natural
+use Rattle.record.specs.declared.fields.SignedField.{SignedField}
+use Rattle.record.specs.declared.fields.SignedField.the-variants as integer
+use Rattle.record.specs.declared.amounts.Amounts.{Amounts}
+use Rattle.record.specs.declared.amounts.Amounts.the-variants as limited
+use Rattle.record.specs.declared.rates.Rates.{Rates}
+use Rattle.record.specs.declared.rates.Rates.the-variants as inRange
+use Rattle.record.specs.Answers.{Body, fault, fieldOf, faultIn, signedFieldOf, signedFaultIn, amountsOf, amountsFaultIn, ratesOf, ratesFaultIn}
+
+-- ---- an answer: the value that was read
+
+pub value : {m : Checked ℕ} {r : Field} {x : ℕ} → r ≡ fieldOf m → r ≡ natural.Value x → m ≡ accepted x
+value {m = accepted y} p e = cc
+value {m = refused q o} p e = cc
+
+pub signed-value : {m : Checked ℤ} {r : SignedField} {x : ℤ} → r ≡ signedFieldOf m → r ≡ integer.Value x → m ≡ accepted x
+signed-value {m = accepted y} p e = cc
+signed-value {m = refused q o} p e = cc
+
+-- ---- or the fault that is asked of it
+
+refused-for : {A : Type 0} {q : Refusal} {o : ℕ} {f : Fault} → f ≡ fault q o → _≡_ {A = Checked A} (refused q o) (refused (f .cause) (f .place))
+refused-for e = ap (λ (g : Fault). refused (g .cause) (g .place)) (sym e)
+
+pub bad : {m : Checked ℕ} {r : Field} {f g : Fault} → r ≡ fieldOf m → r ≡ natural.Bad g → f ≡ faultIn r → m ≡ refused (f .cause) (f .place)
+bad {m = accepted y} p e h = cc
+bad {m = refused q o} p e h = refused-for (h ∙ ap faultIn p)
+
+pub signed-bad : {m : Checked ℤ} {r : SignedField} {f g : Fault} → r ≡ signedFieldOf m → r ≡ integer.Bad g → f ≡ signedFaultIn r → m ≡ refused (f .cause) (f .place)
+signed-bad {m = accepted y} p e h = cc
+signed-bad {m = refused q o} p e h = refused-for (h ∙ ap signedFaultIn p)
+
+pub amounts-bad : {m : Checked (List ℕ)} {r : Amounts} {f g : Fault} → r ≡ amountsOf m → r ≡ limited.Bad g → f ≡ amountsFaultIn r → m ≡ refused (f .cause) (f .place)
+amounts-bad {m = accepted xs} p e h = cc
+amounts-bad {m = refused q o} p e h = refused-for (h ∙ ap amountsFaultIn p)
+
+pub rates-bad : {m : Checked (List ℤ)} {r : Rates} {f g : Fault} → r ≡ ratesOf m → r ≡ inRange.Bad g → f ≡ ratesFaultIn r → m ≡ refused (f .cause) (f .place)
+rates-bad {m = accepted xs} p e h = cc
+rates-bad {m = refused q o} p e h = refused-for (h ∙ ap ratesFaultIn p)
+
+-- ---- a rule of the record, after its fields
+
+pub refusing : (q : Refusal) (place : ℕ) {b : Bool} → b ≡ true → refuseIf b q place ≡ refused q place
+unfolding unless
+refusing q place e = rw e
+
+pub passing : (q : Refusal) (place : ℕ) {b : Bool} → b ≡ false → refuseIf b q place ≡ accepted tt
+unfolding unless
+passing q place e = rw e
+
+-- a rule that some bucket breaks, whose cell stands in the body from o on: the first such bucket was found, or none
+module _ (q : Refusal) (o : ℕ) {k found : ℕ} (e : found ≡ k) where
+  pub refusing-at : found < buckets → refuseIf (k below buckets) q (suc (o + 4 * k)) ≡ refused q (suc o + 4 * found)
+  refusing-at l = refusing q _ (ap (λ (j : ℕ). j below buckets) (sym e) ∙ lt-ltb _ _ l) ∙ ap (refused q) (omega arith)
+
+  pub passing-all : buckets ≤ found → refuseIf (k below buckets) q (suc (o + 4 * k)) ≡ accepted tt
+  passing-all l = passing q _ (ap (λ (j : ℕ). j below buckets) (sym e) ∙ le-ltb _ _ l)
+
+pub rule : {A B : Type 0} (m : Checked A) (rest : Checked B) → (m >> rest) ≡ (m >>= (λ x. rest))
+unfolding _>>_ _>>=_
+rule (accepted x) rest = refl
+rule (refused q place) rest = refl
+
+-- ---- what is left to decode of a body, from a field on
+
+pub after : {A B : Type 0} {m : Checked A} {x : A} (next : A → Checked B) → m ≡ accepted x → (m >>= next) ≡ next x
+unfolding _>>=_
+after next e = rw e
+
+pub record Left {A : Type 0} (field : List ℕ → Checked A) : Type 0 where
+  pub whole : Checked Record
+  pub body : List ℕ
+  pub next : A → Checked Record
+  pub same : whole ≡ (field body >>= next)
+
+module _ {A : Type 0} {field : List ℕ → Checked A} where
+  -- at the second field all but the currency is left
+  abbrev pub begin : {n currency : ℕ} {body : List ℕ} (decode : List ℕ → Checked Record) (rest : ℕ → Checked Record) (next : A → Checked Record)
+      → Body n currency body → decode body ≡ (currencyAt currencies body 0 >>= rest) → rest currency ≡ (field body >>= next) → Left field
+  begin {body = body} decode rest next h p q = record { whole = decode body; body = body; next = next; same = p ∙ after rest (h .first) ∙ q }
+
+  -- the field is refused, and the record with it; or it is read
+  pub out : {q : Refusal} {place : ℕ} (left : Left field) → field (left .body) ≡ refused q place → refused q place ≡ left .whole
+  unfolding _>>=_
+  out left e = rw (left .same, e)
+
+  pub on : {x : A} (left : Left field) → field (left .body) ≡ accepted x → left .whole ≡ left .next x
+  on left e = left .same ∙ after (left .next) e
+
+  -- it is read, and another follows
+  abbrev pub then : {B : Type 0} {further : List ℕ → Checked B} {x : A} (left : Left field) (next : B → Checked Record)
+      → field (left .body) ≡ accepted x → left .next x ≡ (further (left .body) >>= next) → Left further
+  then left next e p = record { whole = left .whole; body = left .body; next = next; same = on left e ∙ p }

@@ -1,0 +1,127 @@
+-- `take_coupons`: refused by its decoder, or a row of coupons entered.
+use Prim.Native.Nat.{ℕ, _+_, _*_, _≤_}
+use Rattle.paper.specs.Ladder.{buckets}
+use Rattle.paper.specs.Decode.{decodeCoupons}
+use Rattle.paper.proofs.Magnitudes.{size-coupons}
+use Rattle.record.specs.Answers.{couponsOf, couponsRead}
+use Rattle.posting.specs.Parts.{trillion}
+use Rattle.slotting.proofs.Rows.{row-long, row-small, row-taken}
+use Rattle.slotting.proofs.Schedule.{scheduled, scheduled-small, scheduled-flow, size-small}
+use mathlib.Core.Bool.{false}
+use mathlib.Core.List.{List}
+use mathlib.Core.Path.{_≡_, refl, sym, ap, _∙_}
+use native.Mathlib.Omega.{arith}
+use borrow.Author.Needs.{needs}
+use Rattle.paper.specs.Refusals.{accepted}
+use Rattle.paper.specs.Records.{flows, currencies}
+use Rattle.paper.specs.Sound.{SoundFlows}
+use Rattle.paper.proofs.Sound.{coupons-sound}
+use Rattle.record.specs.declared.coupons.Coupons.{Coupons}
+use Rattle.slotting.proofs.Flows.{flows-refused, flows-sound}
+use Rattle.slotting.proofs.coupons.take_coupons.Statement.{statement}
+use Rattle.slotting.proofs.coupons.take_coupons.Tie as tie
+
+-- what is known once the body has been read
+module _ (c : tie.After-known-told2) where
+  abbrev body : List ℕ
+  body = c .before .before .before .before .before .before .args .body .now
+
+  abbrev fields : Coupons
+  fields = c .before .bond .given .0 .0
+
+  read : decodeCoupons currencies body ≡ accepted (flows (fields .currency) (couponsOf fields))
+  unfolding couponsRead
+  read = sym (c .before .before .before .decode-coupons .ensures) ∙ ap (couponsRead) (c .before .bond .given .1)
+
+  sound : SoundFlows (couponsOf fields)
+  sound = flows-sound (λ _. false) (coupons-sound currencies (λ _. false) body) read
+
+decode-coupons-requires : tie.Need-decode-coupons-requires
+decode-coupons-requires c κs = c .before .before .pre .0
+
+enum-known-fault : tie.Need-enum-known-fault
+enum-known-fault c = search needs
+
+enum-known-bond : tie.Need-enum-known-bond
+enum-known-bond c = search needs
+
+small : (w : tie.After-known-told2) → fields w .count * fields w .coupon + fields w .principal ≤ trillion
+small w = size-small _ (fields w .period) _ _ _ (sound w)
+
+cast-size : tie.Need-cast-size
+cast-size c = search needs
+
+cast-size-2 : tie.Need-cast-size-2
+cast-size-2 c = search needs
+
+mul-size : tie.Need-mul-size
+mul-size c = record { fits = omega (arith, small (c .before .before)) }
+
+cast-size-3 : tie.Need-cast-size-3
+cast-size-3 c = search needs
+
+add-size : tie.Need-add-size
+add-size c = record { fits = omega (arith, small (c .before .before .before)) }
+
+slice-aggregate-coupon-row : tie.Need-slice-aggregate-coupon-row
+slice-aggregate-coupon-row c = search needs
+
+coupon-row-requires : tie.Need-coupon-row-requires
+unfolding SoundFlows
+coupon-row-requires c κs = let p = sound (c .before .before .before .before) in (p .1 .from, p .2 .last, p .3 .to, refl)
+
+slice-aggregate-enter-row : tie.Need-slice-aggregate-enter-row
+slice-aggregate-enter-row c = search needs
+
+enter-row-requires : tie.Need-enter-row-requires
+enter-row-requires c κs =
+    let w = c .before .before .before .before .before .before .before .before .before in
+    let b = fields w in
+    let filled = c .before .before .before .before .coupon-row .ensures in (
+      (
+        row-long (scheduled (b .period) (b .count) (b .coupon) (b .principal)) buckets filled,
+        row-small (scheduled (b .period) (b .count) (b .coupon) (b .principal)) buckets trillion filled
+            (λ k l. omega (arith, scheduled-small (b .period) (b .count) (b .coupon) (b .principal) k l, small w)),
+        small w,
+      ),
+      w .before .before .before .before .before .before .pre .1,
+    )
+
+returns : tie.Need-returns
+unfolding couponsRead
+returns c = flows-refused (c .before .fault .given .0 .0) (sym (c .before .before .before .decode-coupons .ensures) ∙ ap (couponsRead) (c .before .fault .given .1)) _ _
+
+same-length : tie.Need-same-length
+same-length c = search needs
+
+same-length-2 : tie.Need-same-length-2
+same-length-2 c = search needs
+
+returns-2 : tie.Need-returns-2
+returns-2 c =
+    let w = c .before .before .before .before .before .before .before .before .before .before .before .before .before in
+    let b = fields w in
+    row-taken _ (read w) (b .side) (w .before .before .before .before .before .before .pre .1) (scheduled (b .period) (b .count) (b .coupon) (b .principal)) _ (c .before .before .before .before .before .before .before .before .coupon-row .ensures)
+    (scheduled-flow (b .period) (b .count) (b .coupon) (b .currency) (b .side) (b .principal))
+    (λ i. size-coupons (b .currency) i (b .side) (b .period) (b .count) (b .coupon) (b .principal)) (c .before .before .before .enter-row .ensures)
+
+pub take-coupons-spec : {M : Type 1} → statement M
+take-coupons-spec =
+    tie.close
+    (tie.spec
+    decode-coupons-requires
+    enum-known-fault
+    enum-known-bond
+    cast-size
+    cast-size-2
+    mul-size
+    cast-size-3
+    add-size
+    slice-aggregate-coupon-row
+    coupon-row-requires
+    slice-aggregate-enter-row
+    enter-row-requires
+    returns
+    same-length
+    same-length-2
+    returns-2)

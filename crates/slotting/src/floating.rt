@@ -1,0 +1,28 @@
+// Kind 3: principal and coupon both fall at the reset.
+ghost use Rattle.paper.specs.Records.{currencies};
+ghost use Rattle.paper.specs.Decode.{decodeFloating};
+ghost use Rattle.record.specs.Answers.{Body};
+ghost use Rattle.posting.specs.Parts.{FlowParts};
+ghost use Rattle.slotting.specs.Answers.{FlowsTaken};
+use crate::due::slot_due;
+use posting::Taken;
+use record::floating::DecodedFloating;
+use record::floating::decode_floating;
+
+pub fn take_floating(currency: u32, body: &[u8], section: &mut [i64], sizes: &mut [u64]) -> Taken
+    requires { ⌜ Body 13 currency (now body) ⌝ }
+    requires { ⌜ FlowParts (now section) (now sizes) ⌝ }
+    ensures { λ r. ⌜ FlowsTaken (decodeFloating currencies (now (body .entry))) (now (section .entry)) (now (sizes .entry)) r (now (section .exit)) (now (sizes .exit)) ⌝ }
+{
+    match decode_floating(currency, body) {
+        DecodedFloating::Refused(fault) => Taken::Refused(fault),
+        DecodedFloating::Is(position) => slot_due(
+            position.side,
+            position.months,
+            position.days,
+            position.principal as u64 + position.coupon as u64,
+            section,
+            sizes,
+        ),
+    }
+}

@@ -1,0 +1,83 @@
+-- The changes and the tolerances of the first n currencies are in their lists: none, one currency more, all.
+use Prim.Native.Nat.{ℕ, _+_, _*_, _≤_, _<_}
+use mathlib.Core.Bool.{Bool, true, false}
+use mathlib.Core.List.{List}
+use mathlib.Core.Path.{_≡_, refl, ap, ap₂}
+use native.Mathlib.Omega.{arith}
+use lib.IntN.{ℤ, pos, natAbs}
+use lib.ListN.{replicate}
+use Rattle.paper.specs.Records.{currencies}
+use Rattle.paper.specs.Flow.{shocked}
+use Rattle.paper.specs.Ledger.{Totals}
+use Rattle.paper.specs.Change.{change, tolerance}
+use Rattle.paper.specs.Verdict.{scenarioSum, measure, totalTolerance, changesOf, listed, reportFrom, reportOf}
+use Rattle.paper.proofs.Listed.{measure-listed}
+use Rattle.paper.proofs.Unused.{nothing-change, nothing-tolerance}
+use Rattle.valuation.specs.Bounds.{Nothing, Bounds}
+use Rattle.valuation.specs.Figures.{tolerances, withFigures, mostOfAChange, Figures}
+use Rattle.valuation.proofs.Figures.{figures-of}
+use Rattle.valuation.proofs.Bounds.{change-most, tolerance-most}
+use Rattle.valuation.proofs.Currencies.{UpTo, figures-none, figures-more, figures-skip, figures-all}
+
+-- a currency in which there is nothing has no change and no tolerance
+module _ {t : Totals} {c : ℕ} (n : Nothing t c) (i : ℕ) (p : 1 ≤ i) (l : i ≤ shocked) where
+  nil-change : change t c i ≡ pos 0
+  nil-change = nothing-change t c i (λ k. n .flows 0 k (omega arith)) (λ k. n .flows i k (omega arith)) (n .addOns i p l)
+
+  nil-tolerance : tolerance t c i ≡ 0
+  nil-tolerance = nothing-tolerance t c i (λ k. n .flows 0 k (omega arith)) (λ k. n .flows i k (omega arith))
+
+pub record Done (t : Totals) (n : ℕ) (first second : List ℤ) : Type 0 where
+  pub changes-in : UpTo (change t) n first
+  pub tolerances-in : UpTo (tolerances t) n second
+
+pub done-none : (t : Totals) → Done t 0 (replicate (shocked * currencies) (pos 0)) (replicate (shocked * currencies) (pos 0))
+done-none t = record { changes-in = figures-none (change t); tolerances-in = figures-none (tolerances t) }
+
+module _ {t : Totals} {n : ℕ} {first second : List ℤ} (h : n < currencies) (d : Done t n first second) where
+  pub done-more : {first′ second′ : List ℤ} → first′ ≡ withFigures (change t) n first → second′ ≡ withFigures (tolerances t) n second
+      → Done t (n + 1) first′ second′
+  done-more e g = rw (e, g) (record {
+    changes-in = figures-more (change t) h (d .changes-in);
+    tolerances-in = figures-more (tolerances t) h (d .tolerances-in);
+  })
+
+  pub done-skip : Nothing t (n + 1) → Done t (n + 1) first second
+  done-skip none = record {
+    changes-in = figures-skip (change t) h (d .changes-in) (nil-change none);
+    tolerances-in = figures-skip (tolerances t) h (d .tolerances-in) (λ i p l. ap pos (nil-tolerance none i p l));
+  }
+
+-- ---- all of them
+
+module _ (t : Totals) (curved : ℕ → Bool) (b : Bounds t curved) where
+  changes-small : (c i : ℕ) → 1 ≤ c → c ≤ currencies → 1 ≤ i → i ≤ shocked → natAbs (change t c i) ≤ mostOfAChange
+  changes-small c i l h p m = by (curved c) refl
+    where
+      by : (v : Bool) → curved c ≡ v → natAbs (change t c i) ≤ mostOfAChange
+      by true e = change-most t c (b .bounded c l h e) i p m
+      by false e = rw (nil-change (b .nothing c l h e) i p m) (omega arith)
+
+  tolerances-small : (c i : ℕ) → 1 ≤ c → c ≤ currencies → 1 ≤ i → i ≤ shocked → natAbs (tolerances t c i) ≤ mostOfAChange
+  tolerances-small c i l h p m = by (curved c) refl
+    where
+      by : (v : Bool) → curved c ≡ v → tolerance t c i ≤ mostOfAChange
+      by true e = let rows = b .bounded c l h e .rows in omega (arith, tolerance-most t c i (rows 0 (omega arith) .net) (rows i (omega arith) .net))
+      by false e = omega (arith, nil-tolerance (b .nothing c l h e) i p m)
+
+  module _ {first second : List ℤ} (d : Done t currencies first second) where
+    all-changes : first ≡ changesOf currencies (change t)
+    all-changes = figures-all (change t) (d .changes-in)
+
+    all-tolerances : second ≡ changesOf currencies (tolerances t)
+    all-tolerances = figures-all (tolerances t) (d .tolerances-in)
+
+    pub change-figures : Figures first
+    change-figures = rw all-changes (figures-of (change t) changes-small)
+
+    pub tolerance-figures : Figures second
+    tolerance-figures = rw all-tolerances (figures-of (tolerances t) tolerances-small)
+
+    pub report-done : (T : ℕ) → reportFrom currencies first (measure currencies (listed second)) T ≡ reportOf currencies t T
+    unfolding reportOf measure scenarioSum totalTolerance
+    report-done T = ap₂ (λ (list : List ℤ) (u : ℕ). reportFrom currencies list u T) all-changes (rw all-tolerances (measure-listed currencies (tolerances t)))
