@@ -2,7 +2,7 @@
 use Prim.Native.Nat.{ℕ, zero, suc}
 use mathlib.Core.Bool.{Bool}
 use mathlib.Core.List.{List}
-use mathlib.Core.Path.{_≡_, refl, ap, _∙_}
+use mathlib.Core.Path.{_≡_, refl, sym, ap, _∙_}
 use borrow.Author.Tests.{ne-eqb}
 use Rattle.paper.specs.declared.Refusal.the-variants.{UnknownKind}
 use Rattle.paper.specs.Refusals.{Checked, refused, accepted}
@@ -47,6 +47,9 @@ module _ (curved : ℕ → Bool) where
   pub row-8 : OfKind 8 83 curved (decodeCurve currencies curved)
   unfolding bodyLength kinds decode
   row-8 = record { long = refl; decodes = λ body. refl }
+
+pub row-length : {code kind bytes : ℕ} {curved : ℕ → Bool} {decodeIt : List ℕ → Checked Record} → OfKind kind bytes curved decodeIt → code ≡ kind → bytes ≡ bodyLength code
+row-length of here = sym (ap bodyLength here ∙ of .long)
 
 -- a body of the kind's length is one of the row's
 pub row-body : {code kind bytes c : ℕ} {curved : ℕ → Bool} {decodeIt : List ℕ → Checked Record} {body : List ℕ} → OfKind kind bytes curved decodeIt → code ≡ kind

@@ -10,18 +10,7 @@ use Rattle.paper.specs.TurnedDown.{unknownKind, cutShort}
 use Rattle.paper.specs.Fields.{byte}
 use Rattle.paper.specs.Book.{nextAt}
 use Rattle.load.specs.declared.reader.Found.the-variants.{End, UnknownKind, CutShort, Record}
-use Rattle.load.specs.Reader.{wholeAt, standsAt}
-
--- ---- a record of a kind
-
-module _ (bytes at kind long : ℕ) where
-  pub whole-cut : bytes < suc at + long → CutShort ≡ wholeAt bytes at kind long
-  whole-cut h = rw (lt-ltb bytes (suc at + long) h)
-
-  pub whole-is : suc at + long ≤ bytes → Record kind (suc at) (suc at + long) ≡ wholeAt bytes at kind long
-  whole-is h = rw (le-ltb bytes (suc at + long) h)
-
--- ---- a place, by what stands there
+use Rattle.load.specs.Reader.{standsAt}
 
 module _ (book : List ℕ) (at : ℕ) where
   pub stands-end : length book ≤ at → End ≡ standsAt book at
@@ -33,7 +22,11 @@ module _ (book : List ℕ) (at : ℕ) where
     unfolding standsAt unknownKind
     stands-unknown e = rw (lt-leb (length book) at l, e)
 
-    -- a row of the table of kinds
-    pub stands-known : (kind long : ℕ) → byte book at ≡ kind → bodyLength kind ≡ long → 0 < long → wholeAt (length book) at kind long ≡ standsAt book at
-    unfolding standsAt unknownKind cutShort nextAt
-    stands-known kind long here row some = rw (lt-leb (length book) at l, here, row, ne-eqb long 0 (λ e. omega (arith, some)))
+    module _ (some : bodyLength (byte book at) ≡ 0 → ⊥) where
+      pub stands-cut : length book < suc at + bodyLength (byte book at) → CutShort ≡ standsAt book at
+      unfolding standsAt unknownKind cutShort
+      stands-cut h = rw (lt-leb (length book) at l, ne-eqb (bodyLength (byte book at)) 0 some, lt-ltb (length book) (suc at + bodyLength (byte book at)) h)
+
+      pub stands-whole : suc at + bodyLength (byte book at) ≤ length book → Record (byte book at) (suc at) (suc at + bodyLength (byte book at)) ≡ standsAt book at
+      unfolding standsAt unknownKind cutShort nextAt
+      stands-whole h = rw (lt-leb (length book) at l, ne-eqb (bodyLength (byte book at)) 0 some, le-ltb (length book) (suc at + bodyLength (byte book at)) h)

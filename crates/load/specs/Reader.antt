@@ -1,17 +1,13 @@
 -- What stands at a place of the book.
-use Prim.Native.Nat.{ℕ, suc, _+_}
+use Prim.Native.Nat.{ℕ, suc}
 use mathlib.Core.List.{List}
 use lib.ListN.{length}
-use Rattle.laws.specs.Tests.{if_then_else_, _below_, _upTo_}
+use Rattle.laws.specs.Tests.{if_then_else_, _upTo_}
 use Rattle.paper.specs.TurnedDown.{unknownKind, cutShort}
 use Rattle.paper.specs.Fields.{byte}
 use Rattle.paper.specs.Book.{nextAt}
 use Rattle.load.specs.declared.reader.Found.{Found}
 use Rattle.load.specs.declared.reader.Found.the-variants.{End, UnknownKind, CutShort, Record}
-
--- in a book of so many bytes, a record of this kind, whose body has so many: its body begins after the kind, and ends where the next record begins
-abbrev pub wholeAt : (total at kind bytes : ℕ) → Found
-wholeAt total at kind bytes = if total below suc at + bytes then CutShort else Record kind (suc at) (suc at + bytes)
 
 -- the end, 1, 2, or a record: its kind, where its body begins, and where it ends
 unfoldable pub standsAt : List ℕ → ℕ → Found

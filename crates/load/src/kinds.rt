@@ -1,13 +1,12 @@
 // The kinds in code: which there are and how long a body each has, the function of each, and which of them are curves.
 ghost use mathlib.Core.Path.{_≡_};
-ghost use Prim.Native.Nat.{_<_, _≤_};
-ghost use lib.ListN.{length};
+ghost use Prim.Native.Nat.{_≤_};
 ghost use Rattle.paper.specs.Records.{bodyLength, curveKind, currencies};
 ghost use Rattle.paper.specs.Book.{admitted};
 ghost use Rattle.arrays.specs.Rooms.{soFarIn};
 ghost use Rattle.arrays.specs.Arrays.{PartsHold, arraysAs};
 ghost use Rattle.record.specs.Answers.{Body};
-ghost use Rattle.load.specs.Reader.{wholeAt, standsAt};
+ghost use Rattle.load.specs.Reader.{standsAt};
 ghost use Rattle.load.specs.Step.{BodyTaken};
 use crate::reader::Found;
 use paper::Fault;
@@ -22,20 +21,23 @@ use slotting::option_add_on::take_option;
 use slotting::single::take_single;
 use slotting::term_deposit::take_term_deposit;
 
-// A record of this kind, whose body has so many bytes, at a place in the book.
-fn whole(book: &[u8], at: usize, kind: u8, bytes: usize) -> Found
-    requires { ⌜ (at < length (now book)) × (bytes ≤ 155) ⌝ }
-    ensures { λ r. ⌜ r ≡ wholeAt (length (now (book .entry))) at kind bytes ⌝ }
+// The bytes of a kind's body; 0 where there is no such kind.
+fn body_length(kind: u8) -> usize
+    ensures { λ r. ⌜ (r ≡ bodyLength kind) × (r ≤ 155) ⌝ }
 {
-    let start = at + 1;
-    let next = start + bytes;
-    if book.len() < next {
-        return Found::CutShort;
+    match kind {
+        1 => 9,
+        2 => 13,
+        3 => 13,
+        4 => 82,
+        5 => 155,
+        6 => 79,
+        7 => 26,
+        8 => 83,
+        _ => 0,
     }
-    Found::Record(kind, start, next)
 }
 
-// Each row says its kind again, as a constant, so that the compiler makes one jump of this `match` and the step's.
 pub fn stands_at(book: &[u8], at: usize) -> Found
     ensures { λ r. ⌜ r ≡ standsAt (now (book .entry)) at ⌝ }
 {
@@ -43,17 +45,16 @@ pub fn stands_at(book: &[u8], at: usize) -> Found
         return Found::End;
     }
     let kind = book[at];
-    match kind {
-        1 => whole(book, at, 1, 9),
-        2 => whole(book, at, 2, 13),
-        3 => whole(book, at, 3, 13),
-        4 => whole(book, at, 4, 82),
-        5 => whole(book, at, 5, 155),
-        6 => whole(book, at, 6, 79),
-        7 => whole(book, at, 7, 26),
-        8 => whole(book, at, 8, 83),
-        _ => Found::UnknownKind,
+    let bytes = body_length(kind);
+    if bytes == 0 {
+        return Found::UnknownKind;
     }
+    let start = at + 1;
+    let next = start + bytes;
+    if book.len() < next {
+        return Found::CutShort;
+    }
+    Found::Record(kind, start, next)
 }
 
 // A currency's own parts are lent to the function of the kind: one `match`.
