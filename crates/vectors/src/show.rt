@@ -3,9 +3,13 @@ use libc::STDOUT_FILENO;
 use printing::print_answer;
 
 // Nothing is done about a line that cannot be written: the output then differs from the stored one.
+pub fn say(line: &[u8]) {
+    io::write_all(STDOUT_FILENO, line);
+}
+
 pub fn show(label: &[u8], input: &[u8]) {
     let mut out = [0u8; 2048];
     let count = print_answer(input, &mut out);
-    io::write_all(STDOUT_FILENO, label);
-    io::write_all(STDOUT_FILENO, &out[0..count]);
+    say(label);
+    say(&out[0..count]);
 }

@@ -8,11 +8,13 @@ mod damage;
 mod draw;
 mod halves;
 mod position;
+mod seeded;
 mod shrink;
 mod valid;
 
 pub use aimed::case as aimed_case;
-pub use case::{case, good as good_case, Case, Expected};
+pub use case::{Case, Expected};
 pub use draw::Draw;
 pub use halves::{case as halves_case, rates_that_meet_a_half};
+pub use seeded::{case, good as good_case};
 pub use shrink::shrink;

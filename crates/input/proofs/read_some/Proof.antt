@@ -1,9 +1,9 @@
 -- `read_some`: a count within the part.
 use native.Mathlib.Omega.{arith}
 use borrow.Author.Needs.{needs}
-use Rattle.irreport.proofs.Reading.{no-bytes, same-bytes}
-use Rattle.irreport.proofs.read_some.Statement.{statement}
-use Rattle.irreport.proofs.read_some.Tie as tie
+use Rattle.input.proofs.Reading.{no-bytes, same-bytes}
+use Rattle.input.proofs.read_some.Statement.{statement}
+use Rattle.input.proofs.read_some.Tie as tie
 
 read-requires : tie.Need-read-requires
 read-requires c κs = search needs

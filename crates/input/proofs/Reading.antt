@@ -5,8 +5,7 @@ use mathlib.Core.Path.{_≡_}
 use native.Mathlib.Omega.{arith}
 use borrow.Rule.Slice.PartMut.{mid-len}
 use lib.ListN.{length, take, drop}
-use Rattle.irreport.specs.declared.Input.{Input}
-use Rattle.irreport.specs.declared.Input.the-variants.{Bytes, Failed}
+use Rattle.input.specs.declared.Input.the-variants.{Bytes, Failed}
 
 pub no-bytes : {A : Type 0} (n : ℕ) → Failed ≡ Bytes n → A
 no-bytes n e = let z : _≡_ {A = ℕ} 0 1 = cc in absurd (omega arith)

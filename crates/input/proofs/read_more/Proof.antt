@@ -1,9 +1,9 @@
 -- `read_more`: the bytes before and those that came lie within the room.
 use native.Mathlib.Omega.{arith}
 use borrow.Author.Needs.{needs}
-use Rattle.irreport.proofs.Reading.{no-bytes, same-bytes, within}
-use Rattle.irreport.proofs.read_more.Statement.{statement}
-use Rattle.irreport.proofs.read_more.Tie as tie
+use Rattle.input.proofs.Reading.{no-bytes, same-bytes, within}
+use Rattle.input.proofs.read_more.Statement.{statement}
+use Rattle.input.proofs.read_more.Tie as tie
 
 sub-read-some : tie.Need-sub-read-some
 sub-read-some c = search needs

@@ -4,9 +4,9 @@ use mathlib.Core.Path.{_≡_, _∙_}
 use lib.ListN.{length}
 use native.Mathlib.Omega.{arith}
 use borrow.Author.Needs.{needs}
-use Rattle.irreport.proofs.Reading.{no-bytes, same-bytes, falls}
-use Rattle.irreport.proofs.read_input.Statement.{statement}
-use Rattle.irreport.proofs.read_input.Tie as tie
+use Rattle.input.proofs.Reading.{no-bytes, same-bytes, falls}
+use Rattle.input.proofs.read_input.Statement.{statement}
+use Rattle.input.proofs.read_input.Tie as tie
 
 abbrev Inv-loop : tie.InvT-loop
 Inv-loop room₀ filled₀ room filled = (filled ≤ length room) × (length room ≡ length room₀)
