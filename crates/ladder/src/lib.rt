@@ -96,7 +96,9 @@ fn by_end(months: u32, days: u32, bucket: usize, end: u32, day: u32) -> usize
     if days <= day { bucket } else { bucket + 1 }
 }
 
-pub fn bucket_of(months: u32, days: u32) -> usize
+// Up to two years, up to ten and after are three decisions, so that a late term is not held against every end.
+fn within_two_years(months: u32, days: u32) -> usize
+    requires { ⌜ months ≤ 24 ⌝ }
     ensures { λ r. ⌜ r ≡ bucketOf (record { months = months; days = days }) ⌝ }
     ensures { λ r. ⌜ (1 ≤ r) × (r ≤ buckets) ⌝ }
 {
@@ -113,15 +115,34 @@ pub fn bucket_of(months: u32, days: u32) -> usize
         7..=9 => by_end(months, days, 5, 9, 0),
         10..=12 => by_end(months, days, 6, 12, 0),
         13..=18 => by_end(months, days, 7, 18, 0),
-        19..=24 => by_end(months, days, 8, 24, 0),
-        25..=36 => by_end(months, days, 9, 36, 0),
+        _ => by_end(months, days, 8, 24, 0),
+    }
+}
+
+fn within_ten_years(months: u32, days: u32) -> usize
+    requires { ⌜ (25 ≤ months) × (months ≤ 120) ⌝ }
+    ensures { λ r. ⌜ r ≡ bucketOf (record { months = months; days = days }) ⌝ }
+    ensures { λ r. ⌜ (1 ≤ r) × (r ≤ buckets) ⌝ }
+{
+    match months {
+        0..=36 => by_end(months, days, 9, 36, 0),
         37..=48 => by_end(months, days, 10, 48, 0),
         49..=60 => by_end(months, days, 11, 60, 0),
         61..=72 => by_end(months, days, 12, 72, 0),
         73..=84 => by_end(months, days, 13, 84, 0),
         85..=96 => by_end(months, days, 14, 96, 0),
         97..=108 => by_end(months, days, 15, 108, 0),
-        109..=120 => by_end(months, days, 16, 120, 0),
+        _ => by_end(months, days, 16, 120, 0),
+    }
+}
+
+pub fn bucket_of(months: u32, days: u32) -> usize
+    ensures { λ r. ⌜ r ≡ bucketOf (record { months = months; days = days }) ⌝ }
+    ensures { λ r. ⌜ (1 ≤ r) × (r ≤ buckets) ⌝ }
+{
+    match months {
+        0..=24 => within_two_years(months, days),
+        25..=120 => within_ten_years(months, days),
         121..=180 => by_end(months, days, 17, 180, 0),
         181..=240 => by_end(months, days, 18, 240, 0),
         _ => BUCKETS,
