@@ -3,7 +3,6 @@ ghost use mathlib.Core.Path.{_≡_};
 ghost use Prim.Native.Nat.{_<_, _≤_};
 ghost use lib.IntN.{pos};
 ghost use Rattle.paper.specs.Ladder.{buckets, bucketOf, midpoints};
-ghost use Rattle.paper.specs.Flow.{sided};
 ghost use Rattle.paper.specs.Sound.{Ranged};
 ghost use Rattle.ladder.specs.Ends.{byEnd};
 ghost use Rattle.ladder.specs.Reach.{OnLadder, IsExponent};
@@ -26,16 +25,6 @@ impl TenThousandthYears {
         ensures { λ r. ⌜ r .0 ≡ pos count ⌝ }
     {
         Self(count as i64)
-    }
-}
-
-impl Thousands {
-    // Side 1 is plus, side 2 minus.
-    pub fn sided(side: u32, amount: u32) -> Self
-        ensures { λ r. ⌜ r .0 ≡ sided side (pos amount) ⌝ }
-    {
-        let plus = amount as i64;
-        if side == 1 { Self(plus) } else { Self(-plus) }
     }
 }
 
@@ -119,6 +108,7 @@ fn within_two_years(months: u32, days: u32) -> usize
     }
 }
 
+// The first range begins at 0, so that what it leaves over is one inequality.
 fn within_ten_years(months: u32, days: u32) -> usize
     requires { ⌜ (25 ≤ months) × (months ≤ 120) ⌝ }
     ensures { λ r. ⌜ r ≡ bucketOf (record { months = months; days = days }) ⌝ }

@@ -8,8 +8,10 @@ use native.Mathlib.Omega.{arith}
 use lib.IntN.{ℤ, pos, natAbs, _+ℤ_, +ℤ-assoc, +ℤ-comm}
 use lib.ListN.{length, getD, drop}
 use Rattle.laws.specs.Sums.{sum, total, totalℤ, sumOf, some}
+use Rattle.laws.specs.Lists.{tabulate}
 use Rattle.laws.proofs.Integers.{abs-add}
-use Rattle.laws.proofs.Sums.{sum-front, sum-nil, sum-none, sum-add}
+use Rattle.laws.proofs.Sums.{sum-front, sum-nil, sum-none, sum-add, sum-ext}
+use Rattle.laws.proofs.Lists.{tabulate-length, tabulate-at}
 
 module _ {A : Type 0} where
   -- ---- one element more
@@ -80,6 +82,11 @@ sum-list f z = sum-elements f 0 z
 
 pub sum-getD : (xs : List ℕ) (n : ℕ) → length xs ≤ n → sum (λ k. getD xs k 0) n ≡ sumOf xs
 sum-getD = sum-elements (λ x. x) 0 refl
+
+-- a rule's numbers added, as a list and by the index
+pub sum-tabulate : (f : ℕ → ℕ) (n : ℕ) → sumOf (tabulate f n) ≡ sum f n
+sum-tabulate f n =
+    sym (sum-getD (tabulate f n) n (omega (arith, tabulate-length f n))) ∙ sum-ext _ f n (λ k l. tabulate-at f n k 0 l)
 
 -- from the place k on: the number there, and the rest
 pub sum-drop : (xs : List ℕ) (k : ℕ) → sumOf (drop k xs) ≡ getD xs k 0 + sumOf (drop (suc k) xs)

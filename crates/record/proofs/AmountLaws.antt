@@ -8,6 +8,7 @@ use borrow.Author.Count.{below-more}
 use borrow.Author.Tests.{ltb-false}
 use Rattle.laws.specs.Sums.{sum, sumOf}
 use Rattle.laws.proofs.Sums.{sum-more, sum-le}
+use Rattle.laws.proofs.Totals.{sum-tabulate}
 use Rattle.paper.specs.declared.Fault.{Fault}
 use Rattle.paper.specs.declared.Refusal.the-variants.{TooLarge}
 use Rattle.paper.specs.Scales.{billion}
@@ -18,7 +19,6 @@ use Rattle.paper.specs.Fields.{four, amountAt, each}
 use Rattle.record.specs.declared.amounts.Amounts.{Amounts}
 use Rattle.record.specs.declared.amounts.Amounts.the-variants.{Sum, Bad}
 use Rattle.record.specs.Answers.{amountsFrom, amountsOf}
-use Rattle.record.proofs.Lists.{sum-tabulate}
 use Rattle.record.proofs.FieldLaws.{field-accepts, each-good, each-bad, each-accepts}
 
 -- an answer's own cases

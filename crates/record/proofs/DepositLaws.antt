@@ -4,16 +4,14 @@ use mathlib.Core.List.{List, [], _∷_}
 use mathlib.Core.Path.{_≡_, refl, sym, ap, ap₂, _∙_}
 use native.Mathlib.Nat.{mul-le-mul, le-of-lt}
 use native.Mathlib.Omega.{arith}
-use borrow.Author.Tests.{leb-true}
 use lib.ListN.{getD}
-use Rattle.laws.specs.Tests.{_upTo_, all}
 use Rattle.laws.specs.Sums.{sum}
-use Rattle.laws.proofs.Tests.{all-at}
 use Rattle.laws.proofs.Sums.{sum-more, sum-ext}
 use Rattle.laws.proofs.Lists.{tabulate-at}
-use Rattle.paper.specs.Ladder.{buckets, midpoints, midpoint}
+use Rattle.paper.specs.Ladder.{buckets, midpoint}
 use Rattle.paper.specs.Behaviour.{weighedCore}
 use Rattle.paper.specs.Fields.{four}
+use Rattle.paper.proofs.Midpoints.{midpoint-most}
 use Rattle.record.specs.Answers.{amountsFrom}
 
 -- another category has no cap
@@ -24,10 +22,6 @@ uncapped a b d (suc zero) f g h = absurd (f refl)
 uncapped a b d (suc (suc zero)) f g h = absurd (g refl)
 uncapped a b d (suc (suc (suc zero))) f g h = absurd (h refl)
 uncapped a b d (suc (suc (suc (suc n)))) f g h = refl
-
-midpoint-most : (k : ℕ) → k < buckets → midpoint k ≤ 250000
-unfolding midpoints all
-midpoint-most k l = leb-true _ _ (all-at (λ j. midpoint j upTo 250000) 0 buckets refl k (omega arith) (omega arith))
 
 module _ (body : List ℕ) where
   abbrev weight : ℕ → ℕ
@@ -42,12 +36,12 @@ module _ (body : List ℕ) where
   unfolding sum
   weighed-none = record { total = refl; small = omega arith }
 
-  pub weighed-more : (k weighed amount middle : ℕ) → k < buckets → Weighed k weighed → amount ≡ four body (6 + 4 * k) → amount < 4294967296
+  pub weighed-more : (k weighed amount middle : ℕ) → Weighed k weighed → amount ≡ four body (6 + 4 * k) → amount < 4294967296
       → middle ≡ midpoint k → Weighed (k + 1) (weighed + amount * middle)
-  weighed-more k weighed amount middle l h e f m = record {
+  weighed-more k weighed amount middle h e f m = record {
     total = ap₂ (λ (s w : ℕ). s + w) (h .total) (ap₂ (λ (x y : ℕ). x * y) e m) ∙ sym (sum-more weight k);
     small =
-        let most : middle ≤ 250000 = rw m (midpoint-most k l) in
+        let most : middle ≤ 250000 = rw m (midpoint-most k) in
         omega (arith, h .small, mul-le-mul (le-of-lt f) most);
   }
 

@@ -1,5 +1,3 @@
--- lists, with no product words
-pub mod Lists
 -- a field, and fields in a row, by the paper's definitions
 pub mod FieldLaws
 -- an answer, and a body decoded field by field

@@ -10,6 +10,7 @@ use lib.IntN.{ℤ, pos}
 use lib.ListN.{length, getD, take, drop, set, length-append, length-take, length-drop}
 use Rattle.laws.proofs.Tests.{first-is, none-first}
 use Rattle.laws.proofs.Lists.{tabulate-length, tabulate-at}
+use Rattle.laws.proofs.Filling.{fill-more, fill-all}
 use Rattle.paper.specs.declared.Fault.{Fault}
 use Rattle.paper.specs.declared.Refusal.the-variants.{OutOfRange}
 use Rattle.paper.specs.Ladder.{buckets}
@@ -22,7 +23,6 @@ use Rattle.paper.proofs.Ranges.{rate-range}
 use Rattle.record.specs.declared.rates.Rates.{Rates}
 use Rattle.record.specs.declared.rates.Rates.the-variants.{All, Bad}
 use Rattle.record.specs.Answers.{rateOf, ratesFrom, goodRates, ratesSet, ratesOf}
-use Rattle.record.proofs.Lists.{fill-more, fill-all}
 use Rattle.record.proofs.FieldLaws.{field-accepts, field-refuses, each-good, each-bad, each-accepts}
 
 -- an answer's own cases

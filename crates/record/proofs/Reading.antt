@@ -60,6 +60,9 @@ pub refusing : (q : Refusal) (place : ℕ) {b : Bool} → b ≡ true → refuseI
 unfolding unless
 refusing q place e = rw e
 
+pub refusing-record : (q : Refusal) {b : Bool} {f : Fault} → b ≡ true → f ≡ fault q 0 → refuseIf b q 0 ≡ refused (f .cause) (f .place)
+refusing-record q e h = refusing q 0 e ∙ refused-for h
+
 pub passing : (q : Refusal) (place : ℕ) {b : Bool} → b ≡ false → refuseIf b q place ≡ accepted tt
 unfolding unless
 passing q place e = rw e

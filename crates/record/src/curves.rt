@@ -5,6 +5,7 @@ ghost use Rattle.paper.specs.Records.{currencies};
 ghost use Rattle.paper.specs.Decode.{decodeCurve};
 ghost use Rattle.record.specs.Answers.{Body, curveRead};
 use crate::fields::Field;
+use crate::fields::record_fault;
 use crate::fields::shock_at;
 use crate::rates::Rates;
 use crate::rates::rates_at;
@@ -30,10 +31,7 @@ pub fn decode_curve(currency: u32, curved: bool, body: &[u8]) -> DecodedCurve
     ensures { λ r. ⌜ curveRead (now (body .entry)) r ≡ decodeCurve currencies (λ _. curved) (now (body .entry)) ⌝ }
 {
     if curved {
-        return DecodedCurve::Refused(Fault {
-            cause: Refusal::SecondCurve,
-            place: 0,
-        });
+        return DecodedCurve::Refused(record_fault(Refusal::SecondCurve));
     }
     let mut rates = [0i64; BUCKETS];
     let read = rates_at(body, 1, &mut rates);

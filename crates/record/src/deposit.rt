@@ -15,6 +15,7 @@ use crate::bytes::four_at;
 use crate::fields::Field;
 use crate::fields::amount_at;
 use crate::fields::category_at;
+use crate::fields::record_fault;
 use ladder::midpoints;
 use paper::BUCKETS;
 use paper::Fault;
@@ -90,16 +91,10 @@ pub fn decode_deposit(currency: u32, body: &[u8]) -> DecodedDeposit
         return DecodedDeposit::Refused(read.fault());
     };
     if above_cap(category, total, core) {
-        return DecodedDeposit::Refused(Fault {
-            cause: Refusal::CoreAboveCap,
-            place: 0,
-        });
+        return DecodedDeposit::Refused(record_fault(Refusal::CoreAboveCap));
     }
     if too_long(category, core, weighed_core(body)) {
-        return DecodedDeposit::Refused(Fault {
-            cause: Refusal::CoreTooLong,
-            place: 0,
-        });
+        return DecodedDeposit::Refused(record_fault(Refusal::CoreTooLong));
     }
     DecodedDeposit::Is(Deposit {
         currency,

@@ -9,7 +9,7 @@ ghost use Rattle.laws.specs.Tests.{_upTo_, _below_};
 ghost use Rattle.paper.specs.Refusals.{unless};
 ghost use Rattle.paper.specs.Records.{currencies};
 ghost use Rattle.paper.specs.Fields.{currencyAt, sideAt, monthsAt, daysAt, periodAt, countAt, amountAt, optionAt, shareAt, categoryAt, rateAt, shockAt};
-ghost use Rattle.record.specs.Answers.{fieldOf, signedFieldOf, faultIn, signedFaultIn};
+ghost use Rattle.record.specs.Answers.{fault, fieldOf, signedFieldOf, faultIn, signedFaultIn};
 use crate::bytes::byte_at;
 use crate::bytes::four_at;
 use crate::bytes::signed_at;
@@ -55,6 +55,13 @@ impl SignedField {
             },
         }
     }
+}
+
+// Of a rule that the record breaks as a whole: the place is its first byte, the kind.
+pub fn record_fault(cause: Refusal) -> Fault
+    ensures { λ r. ⌜ r ≡ fault cause 0 ⌝ }
+{
+    Fault { cause, place: 0 }
 }
 
 // Which refusal a bad value earns, and where, is the reader's to say.

@@ -14,6 +14,7 @@ use crate::amounts::Amounts;
 use crate::amounts::amounts_at;
 use crate::bytes::four_at;
 use crate::fields::Field;
+use crate::fields::record_fault;
 use crate::fields::share_at;
 use paper::BUCKETS;
 use paper::Fault;
@@ -80,10 +81,7 @@ pub fn decode_loan(currency: u32, body: &[u8]) -> DecodedLoan
         });
     }
     if 1000000000 < principal + interest {
-        return DecodedLoan::Refused(Fault {
-            cause: Refusal::OverLimit,
-            place: 0,
-        });
+        return DecodedLoan::Refused(record_fault(Refusal::OverLimit));
     }
     DecodedLoan::Is(Loan { currency, share })
 }

@@ -1,6 +1,8 @@
 // Kind 7, an option add-on: currency, side (1 sold, 2 bought), six signed values, one for each scenario.
 ghost use mathlib.Core.Path.{_≡_};
+ghost use Rattle.paper.specs.Refusals.{accepted};
 ghost use Rattle.paper.specs.Records.{currencies};
+ghost use Rattle.paper.specs.Fields.{sideAt};
 ghost use Rattle.paper.specs.Decode.{decodeOption};
 ghost use Rattle.record.specs.Answers.{Body, optionRead};
 use crate::fields::Field;
@@ -25,14 +27,11 @@ pub enum DecodedOption {
     Refused(Fault),
 }
 
-pub fn decode_option(currency: u32, body: &[u8]) -> DecodedOption
-    requires { ⌜ Body 26 currency (now body) ⌝ }
+// The six values, once the side is read.
+fn decode_values(currency: u32, side: u32, body: &[u8]) -> DecodedOption
+    requires { ⌜ Body 26 currency (now body) × (sideAt (now body) 1 ≡ accepted side) ⌝ }
     ensures { λ r. ⌜ optionRead r ≡ decodeOption currencies (now (body .entry)) ⌝ }
 {
-    let read = side_at(body, 1);
-    let Field::Value(side) = read else {
-        return DecodedOption::Refused(read.fault());
-    };
     let read = option_at(body, 2);
     let SignedField::Value(up) = read else {
         return DecodedOption::Refused(read.fault());
@@ -67,4 +66,15 @@ pub fn decode_option(currency: u32, body: &[u8]) -> DecodedOption
         short_up,
         short_down,
     })
+}
+
+pub fn decode_option(currency: u32, body: &[u8]) -> DecodedOption
+    requires { ⌜ Body 26 currency (now body) ⌝ }
+    ensures { λ r. ⌜ optionRead r ≡ decodeOption currencies (now (body .entry)) ⌝ }
+{
+    let read = side_at(body, 1);
+    let Field::Value(side) = read else {
+        return DecodedOption::Refused(read.fault());
+    };
+    decode_values(currency, side, body)
 }

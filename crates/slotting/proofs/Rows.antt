@@ -1,17 +1,17 @@
 -- Flows of all seven scenarios in one list, a row of nineteen for each; the multipliers of the scenarios.
-use Prim.Native.Nat.{ℕ, _+_, _*_, _/_, _%_, _≤_, _<_}
+use Prim.Native.Nat.{ℕ, _/_, _%_, _≤_, _<_}
 use mathlib.Core.Bool.{true}
 use mathlib.Core.List.{List}
-use mathlib.Core.Path.{_≡_, sym, ap, ap₂, subst, _∙_}
+use mathlib.Core.Path.{_≡_, sym, ap, subst, _∙_}
 use native.Mathlib.Omega.{arith}
 use lib.IntN.{ℤ, pos}
 use lib.ListN.{length, getD}
 use borrow.Author.Tests.{leb-true}
 use Rattle.laws.specs.Tests.{_upTo_, all}
-use Rattle.laws.specs.Lists.{tabulate, splice}
+use Rattle.laws.specs.Lists.{tabulate}
 use Rattle.laws.proofs.Tests.{all-at}
-use Rattle.laws.proofs.Lists.{tabulate-length, tabulate-at, tabulate-is}
-use Rattle.laws.proofs.Sections.{length-section, length-splice}
+use Rattle.laws.proofs.Lists.{tabulate-length, tabulate-at}
+use Rattle.laws.proofs.Filling.{byRow}
 use Rattle.paper.specs.Ladder.{buckets}
 use Rattle.paper.specs.Refusals.{Checked, accepted}
 use Rattle.paper.specs.Records.{Record}
@@ -19,43 +19,13 @@ use Rattle.paper.specs.Flow.{scenarios, sided, flow, magnitude}
 use Rattle.paper.specs.Ledger.{sectionSize}
 use Rattle.posting.specs.declared.Taken.{Taken}
 use Rattle.posting.specs.Parts.{AtMost, FlowParts, Entered}
-use Rattle.laws.proofs.Filling.{Filled, filled-none, filled-part}
 use Rattle.posting.proofs.Loops.{tabulate-all}
 use Rattle.slotting.specs.Answers.{FlowsTaken}
 use Rattle.slotting.proofs.Flows.{entered-taken}
 
 -- by the place in a section
 abbrev pub byPlace : (ℕ → ℕ → ℕ) → ℕ → ℕ
-byPlace row j = row (j / buckets) (j % buckets)
-
--- a section's length, with the rows of the first i scenarios filled
-pub record Rows (row : ℕ → ℕ → ℕ) (i : ℕ) (l : List ℕ) : Type 0 where
-  pub long : length l ≡ sectionSize
-  pub filled : Filled 0 (19 * i) (byPlace row) l
-
-pub rows-none : (row : ℕ → ℕ → ℕ) (l : List ℕ) → length l ≡ sectionSize → Rows row 0 l
-rows-none row l e = record { long = e; filled = filled-none 0 (byPlace row) l }
-
--- one more, by a part lent on
-pub rows-next : {row : ℕ → ℕ → ℕ} {l part : List ℕ} {i : ℕ} → i < 7 → Rows row i l → part ≡ tabulate (row i) buckets → Rows row (i + 1) (splice (19 * i) 19 l part)
-rows-next {row} {l} {part} {i} w h e =
-    let more : 19 * (i + 1) ≡ 19 * i + 19 = omega arith in
-    let nineteen : length part ≡ 19 = ap length e ∙ tabulate-length (row i) buckets in
-    let room : 19 * i + 19 ≤ length l = omega (arith, h .long) in
-    record {
-      long = length-splice (19 * i) 19 l part (nineteen ∙ sym (length-section (19 * i) 19 l room)) ∙ h .long;
-      filled = rw more
-          (filled-part 0 (byPlace row) l part (19 * i) 19 (h .filled)
-          (λ k o.
-          let scenario : i ≡ (19 * i + k) / 19 = omega arith in
-          let bucket : k ≡ (19 * i + k) % 19 = omega arith in
-          ap (λ (m : List ℕ). getD m k 0) e ∙ tabulate-at (row i) buckets k 0 o ∙ ap₂ row scenario bucket)
-          nineteen
-          room);
-    }
-
-pub rows-done : {row : ℕ → ℕ → ℕ} {l : List ℕ} {i : ℕ} → 7 ≤ i → Rows row i l → l ≡ tabulate (byPlace row) sectionSize
-rows-done {row} {l} {i} w h = tabulate-is 0 l (byPlace row) sectionSize (h .long) (λ j o. h .filled j (omega arith))
+byPlace row = byRow 0 row buckets sectionSize
 
 -- ---- a row, or a row for each scenario, once filled: its bound, and whose flows it is
 

@@ -18,7 +18,7 @@ use Rattle.paper.proofs.Ranges.{shock-range}
 use Rattle.curve.specs.declared.Shocks.{Shocks}
 use Rattle.curve.specs.Shocked.{curveOf}
 use Rattle.record.specs.Answers.{ratesFrom, curveRead}
-use Rattle.record.proofs.Reading.{value, bad, rates-bad, refusing, passing, refusing-at, passing-all, rule, Left, begin, out, on, then}
+use Rattle.record.proofs.Reading.{value, bad, rates-bad, refusing-record, passing, refusing-at, passing-all, rule, Left, begin, out, on, then}
 use Rattle.record.proofs.RateLaws.{Rated, rates-all}
 use Rattle.record.proofs.curves.decode_curve.Statement.{statement}
 use Rattle.record.proofs.curves.decode_curve.Tie as tie
@@ -72,7 +72,7 @@ shocked-tested c =
 
 returns : tie.Need-returns
 unfolding curveRead secondCurve at-second
-returns c = out (at-second (c .before)) (refusing _ _ (c .if1 .taken))
+returns c = out (at-second (c .before .before)) (refusing-record _ (c .before .if1 .taken) (c .record-fault .ensures))
 
 returns-2 : tie.Need-returns-2
 unfolding curveRead at-rates
@@ -115,7 +115,7 @@ pub decode-curve-spec : {M : Type 1} → statement M
 decode-curve-spec =
     tie.close
     (tie.spec
-    returns
+    (λ c κs. search needs) returns
     (λ c. search needs) (λ c κs. search needs) (λ c. search needs) (λ c. search needs) (λ c κs. search needs) returns-2
     (λ c κs. search needs) (λ c. search needs) (λ c. search needs) (λ c κs. search needs) returns-3
     (λ c κs. search needs) (λ c. search needs) (λ c. search needs) (λ c κs. search needs) returns-4

@@ -13,7 +13,7 @@ use Rattle.paper.specs.TurnedDown.{coreAboveCap, coreTooLong}
 use Rattle.paper.specs.Fields.{categoryAt, amountAt, each}
 use Rattle.paper.specs.Decode.{decodeDeposit}
 use Rattle.record.specs.Answers.{amountsFrom, depositRead}
-use Rattle.record.proofs.Reading.{value, bad, amounts-bad, refusing, passing, rule, Left, begin, out, on, then}
+use Rattle.record.proofs.Reading.{value, bad, amounts-bad, refusing-record, passing, rule, Left, begin, out, on, then}
 use Rattle.record.proofs.AmountLaws.{Amounting, amounts-summed}
 use Rattle.record.proofs.deposit.decode_deposit.Statement.{statement}
 use Rattle.record.proofs.deposit.decode_deposit.Tie as tie
@@ -78,11 +78,11 @@ returns-3 c = out (at-core (c .before .before .before .before)) (amounts-bad (c 
 
 returns-4 : tie.Need-returns-4
 unfolding depositRead at-cap
-returns-4 c = out (at-cap (c .before .before)) (refusing _ _ (cap-tested (c .before) ∙ c .if1 .taken))
+returns-4 c = out (at-cap (c .before .before .before)) (refusing-record _ (cap-tested (c .before .before) ∙ c .before .if1 .taken) (c .record-fault .ensures))
 
 returns-5 : tie.Need-returns-5
 unfolding depositRead at-average
-returns-5 c = out (at-average (c .before .before .before)) (refusing _ _ (average-tested (c .before) ∙ c .if2 .taken))
+returns-5 c = out (at-average (c .before .before .before .before)) (refusing-record _ (average-tested (c .before .before) ∙ c .before .if2 .taken) (c .record-fault2 .ensures))
 
 returns-6 : tie.Need-returns-6
 unfolding depositRead at-average
@@ -96,8 +96,8 @@ decode-deposit-spec =
     (λ c κs. search needs) (λ c. search needs) (λ c. search needs) (λ c κs. search needs) returns-2
     (λ c κs. search needs) (λ c. search needs) (λ c. search needs) (λ c κs. search needs) returns-3
     (λ c κs. omega (arith, core c .small))
-    returns-4
+    (λ c κs. search needs) returns-4
     (λ c κs. search needs)
     (λ c κs. omega (arith, core (c .before .before .before) .small))
-    returns-5
+    (λ c κs. search needs) returns-5
     returns-6)

@@ -20,7 +20,7 @@ more : (c : tie.After-four-at Inv-loop μ-loop)
     → Weighed (c .before .before .before .before .before .args .body .now) (c .before .before .loop .k + 1)
     (c .before .before .loop .weighed + c .four-at .result * getD (c .before .before .before .midpoints .result) (c .before .before .loop .k) 0)
 more c =
-    weighed-more _ _ _ _ _ (c .before .loop-test .taken) (c .before .before .loop .inv .1) (c .four-at .ensures) (omega arith)
+    weighed-more _ _ _ _ _ (c .before .before .loop .inv .1) (c .four-at .ensures) (omega arith)
     (ap (λ (l : List ℕ). getD l (c .before .before .loop .k) 0) (c .before .before .before .midpoints .ensures))
 
 loop-holds : tie.Need-loop-holds Inv-loop μ-loop

@@ -16,7 +16,7 @@ use Rattle.paper.specs.TurnedDown.{interestAlone, scheduleOver}
 use Rattle.paper.specs.Fields.{shareAt, amountAt, each}
 use Rattle.paper.specs.Decode.{decodeLoan}
 use Rattle.record.specs.Answers.{amountsFrom, loanRead}
-use Rattle.record.proofs.Reading.{value, bad, amounts-bad, refusing, passing, refusing-at, passing-all, rule, Left, begin, out, on, then}
+use Rattle.record.proofs.Reading.{value, bad, amounts-bad, refusing-record, passing, refusing-at, passing-all, rule, Left, begin, out, on, then}
 use Rattle.record.proofs.AmountLaws.{Amounting, amounts-summed}
 use Rattle.record.proofs.loan.decode_loan.Statement.{statement}
 use Rattle.record.proofs.loan.decode_loan.Tie as tie
@@ -81,10 +81,10 @@ add-if2 c =
 returns-5 : tie.Need-returns-5
 unfolding loanRead scheduleOver at-schedule
 returns-5 c =
-    let p = c .before .before .before in
-    let body = at-schedule (c .before) .body in
+    let p = c .before .before .before .before in
+    let body = at-schedule (c .before .before) .body in
     let over : billion < sumOf (amountsFrom body 3) + sumOf (amountsFrom body 79) = omega (arith, principals (p .before .before .before .before) .total, interests p .total) in
-    out (at-schedule (c .before)) (refusing _ _ (lt-ltb _ _ over))
+    out (at-schedule (c .before .before)) (refusing-record _ (lt-ltb _ _ over) (c .record-fault .ensures))
 
 returns-6 : tie.Need-returns-6
 unfolding loanRead scheduleOver at-schedule
@@ -104,5 +104,5 @@ decode-loan-spec =
     interest-alone-requires
     (λ c. search needs) (λ c. search needs) returns-4
     add-if2
-    returns-5
+    (λ c κs. search needs) returns-5
     returns-6)

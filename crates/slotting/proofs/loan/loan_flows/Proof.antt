@@ -9,19 +9,20 @@ use Rattle.laws.specs.Sums.{sum}
 use Rattle.laws.specs.Lists.{tabulate}
 use Rattle.laws.proofs.Lists.{tabulate-is}
 use Rattle.laws.proofs.Sections.{length-section}
+use Rattle.laws.proofs.Filling.{Filled, filled-none, filled-next, Rows, rows-none, rows-next, rows-all}
 use Rattle.paper.specs.Ladder.{buckets}
 use Rattle.paper.specs.Behaviour.{behaviouralRate, prepaymentMultipliers, prepaymentRate, loanFlow}
 use Rattle.paper.specs.Flow.{scenarios}
+use Rattle.paper.specs.Ledger.{sectionSize}
 use Rattle.paper.proofs.Deposits.{rate-at-most}
 use Rattle.record.specs.Answers.{amountsFrom}
-use Rattle.laws.proofs.Filling.{Filled, filled-none, filled-next}
-use Rattle.slotting.proofs.Rows.{Rows, rows-none, rows-next, rows-done, multiplier-small}
+use Rattle.slotting.proofs.Rows.{multiplier-small}
 use Rattle.slotting.proofs.loan.loan_flows.Statement.{statement}
 use Rattle.slotting.proofs.loan.loan_flows.Tie as tie
 
 abbrev Inv-loop : tie.InvT-loop
 Inv-loop body share flows₀ more₀ multipliers principal i₀ flows more i =
-    (i ≤ 7) × (length more ≡ 7) × Rows (λ s. loanFlow (prepaymentRate share s) (amountsFrom body 3) (amountsFrom body 79)) i flows
+    (i ≤ 7) × (length more ≡ 7) × Rows 0 (λ s. loanFlow (prepaymentRate share s) (amountsFrom body 3) (amountsFrom body 79)) buckets sectionSize i flows
     × Filled 0 i (λ s. sum (loanFlow (prepaymentRate share s) (amountsFrom body 3) (amountsFrom body 79)) buckets) more
 
 abbrev μ-loop : tie.MeasureT-loop
@@ -33,7 +34,7 @@ sum-from-requires c κs = (search needs, c .before .before .before .pre .1 .prin
 loop-holds : tie.Need-loop-holds Inv-loop μ-loop
 loop-holds c =
     let s = c .before .before .before .before in
-    (search needs, search needs, rows-none _ (s .args .flows .now) (s .pre .0 .2), filled-none 0 _ (s .args .more .now))
+    (search needs, search needs, rows-none 0 _ _ _ (s .args .flows .now) (s .pre .0 .2), filled-none 0 _ (s .args .more .now))
 
 mul-rate-of : tie.Need-mul-rate-of Inv-loop μ-loop
 mul-rate-of c = search needs
@@ -98,7 +99,7 @@ loop-again c =
     rw count (
       omega arith,
       search needs,
-      rows-next (omega arith) (at .inv .2) (row .0 ∙ ap (λ (r : ℕ). tabulate (flow r) buckets) rate),
+      rows-next 0 _ _ _ (at .i) (at .flows) _ (omega arith) (row .0 ∙ ap (λ (r : ℕ). tabulate (flow r) buckets) rate) (at .inv .2),
       filled-next 0 _ (at .more) (at .i) _ (at .inv .3) (row .1 ∙ ap (λ (r : ℕ). sum (flow r) buckets) rate) (search needs),
     )
 
@@ -112,7 +113,7 @@ same-length-2 c = search needs
 returns : tie.Need-returns Inv-loop μ-loop
 returns c =
     let at = c .before .loop in
-    (rows-done (omega arith) (at .inv .2), tabulate-is 0 (at .more) _ scenarios (at .inv .1) (λ i l. at .inv .3 i (omega arith)))
+    (rows-all 0 _ _ _ (at .i) (at .flows) (omega arith) (at .inv .2), tabulate-is 0 (at .more) _ scenarios (at .inv .1) (λ i l. at .inv .3 i (omega arith)))
 
 pub loan-flows-spec : {M : Type 1} → statement M
 loan-flows-spec =

@@ -6,24 +6,26 @@ use borrow.Author.Needs.{needs}
 use Rattle.laws.specs.Tests.{all}
 use Rattle.laws.specs.Lists.{tabulate}
 use Rattle.laws.proofs.Sections.{length-section}
+use Rattle.laws.proofs.Filling.{Rows, rows-none, rows-next, rows-all}
 use Rattle.paper.specs.Ladder.{buckets}
 use Rattle.paper.specs.Behaviour.{behaviouralRate, withdrawalMultipliers, withdrawalRate, termDepositFlow}
+use Rattle.paper.specs.Ledger.{sectionSize}
 use Rattle.paper.proofs.Deposits.{rate-at-most}
 use Rattle.record.specs.Answers.{amountsFrom}
-use Rattle.slotting.proofs.Rows.{Rows, rows-none, rows-next, rows-done, multiplier-small}
+use Rattle.slotting.proofs.Rows.{multiplier-small}
 use Rattle.slotting.proofs.term_deposit.withdrawn_flows.Statement.{statement}
 use Rattle.slotting.proofs.term_deposit.withdrawn_flows.Tie as tie
 
 abbrev Inv-loop : tie.InvT-loop
 Inv-loop body share flows₀ multipliers i₀ flows i =
-    (i ≤ 7) × Rows (λ s. termDepositFlow (withdrawalRate share s) (amountsFrom body 3)) i flows
+    (i ≤ 7) × Rows 0 (λ s. termDepositFlow (withdrawalRate share s) (amountsFrom body 3)) buckets sectionSize i flows
 
 abbrev μ-loop : tie.MeasureT-loop
 μ-loop body share flows₀ multipliers i₀ flows i = 7 - i
 
 loop-holds : tie.Need-loop-holds Inv-loop μ-loop
 loop-holds c =
-    (search needs, rows-none _ (c .before .before .args .flows .now) (c .before .before .pre .0 .2))
+    (search needs, rows-none 0 _ _ _ (c .before .before .args .flows .now) (c .before .before .pre .0 .2))
 
 mul-rate-of : tie.Need-mul-rate-of Inv-loop μ-loop
 mul-rate-of c = search needs
@@ -78,13 +80,15 @@ loop-again c =
     let count : 19 * at .i + 19 - 19 * at .i ≡ 19 = omega arith in
     let rate : c .before .before .before .before .rate-of .result ≡ withdrawalRate (s .args .share) (at .i) = c .before .before .before .before .rate-of .ensures in
     let filled = c .before .before .withdrawn .ensures ∙ ap (λ (r : ℕ). tabulate (termDepositFlow r (amountsFrom (s .args .body .now) 3)) buckets) rate in
-    rw count (omega arith, rows-next (omega arith) (at .inv .1) filled)
+    rw count (omega arith, rows-next 0 _ _ _ (at .i) (at .flows) _ (omega arith) filled (at .inv .1))
 
 same-length : tie.Need-same-length Inv-loop μ-loop
 same-length c = c .before .loop .inv .1 .long ∙ sym (c .before .before .before .before .pre .0 .2)
 
 returns : tie.Need-returns Inv-loop μ-loop
-returns c = rows-done (omega arith) (c .before .loop .inv .1)
+returns c =
+    let at = c .before .loop in
+    rows-all 0 _ _ _ (at .i) (at .flows) (omega arith) (at .inv .1)
 
 pub withdrawn-flows-spec : {M : Type 1} → statement M
 withdrawn-flows-spec =
