@@ -21,10 +21,10 @@ use Rattle.paper.specs.TurnedDown.{unknownKind, secondCurve, flowsOver, options
 use Rattle.paper.specs.Fields.{byte, currencyAt}
 use Rattle.paper.specs.Decode.{decodeCurve, decode}
 use Rattle.paper.specs.Book.{placed, admitted, recordAt}
-use Rattle.paper.proofs.Known.{Known, known-of, field-known}
+use Rattle.paper.proofs.Checks.{known-of}
 use Rattle.paper.specs.Sound.{Between, Sound}
-use Rattle.paper.proofs.Ranges.{currency-range}
-use Rattle.paper.proofs.KindLaws.{first-field}
+use Rattle.paper.proofs.Ranges.{currency-known}
+use Rattle.paper.proofs.KindTable.{first-field}
 use Rattle.arrays.specs.Masks.{curvedBy}
 use Rattle.arrays.specs.Rooms.{sizeBy, optionSizeBy, soFarBy, soFarIn}
 use Rattle.arrays.specs.Arrays.{partOf}
@@ -85,7 +85,7 @@ module _ (x y : SoFar) (agree : (c : ℕ) → 1 ≤ c → c ≤ currencies → A
   all-agree kind body known = by (currencyAt currencies body 0) refl
     where
       by : (m : Checked ℕ) → currencyAt currencies body 0 ≡ m → admitted currencies x kind body ≡ admitted currencies y kind body
-      by (accepted c) e = let b : Between 1 currencies c = known-of (field-known (currency-range currencies) _ _ _) c e in admitted-agrees c x y (agree c (b .from) (b .to)) body e kind
+      by (accepted c) e = let b : Between 1 currencies c = known-of (currency-known body 0 currencies) c e in admitted-agrees c x y (agree c (b .from) (b .to)) body e kind
       by (refused q place) e = refused-alike kind body q place known e
 
   pub record-agrees : (book : List ℕ) (at : ℕ) → recordAt currencies x book at ≡ recordAt currencies y book at

@@ -20,7 +20,7 @@ use Rattle.paper.specs.Flow.{scenarios, shocked}
 use Rattle.paper.specs.Records.{Record, currencies}
 use Rattle.paper.specs.Ledger.{sectionSize, cells, totals, soFar, used, curved, ledgerOf}
 use Rattle.paper.proofs.Limits.{net-limited, addOn-limited}
-use Rattle.paper.proofs.Walked.{Good}
+use Rattle.paper.proofs.Walk.{Good}
 use Rattle.arrays.specs.declared.masks.Masks.{Masks}
 use Rattle.arrays.specs.Masks.{curvedBy, MaskOf}
 use Rattle.arrays.specs.Arrays.{Arrays, byCurrency, arraysOf, partOf, partsOf, Sized, PartsHold, Holding}

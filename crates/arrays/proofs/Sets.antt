@@ -19,7 +19,7 @@ use Rattle.laws.proofs.Totals.{some-more}
 use Rattle.paper.specs.Records.{Record, currencies, currencyOf, isCurve}
 use Rattle.paper.specs.Ledger.{used, curved}
 use Rattle.paper.specs.TurnedDown.{lacksCurve}
-use Rattle.paper.proofs.Walked.{curved-more}
+use Rattle.paper.proofs.Walk.{curved-more}
 use Rattle.arrays.specs.declared.masks.Masks.{Masks}
 use Rattle.arrays.specs.Masks.{curvedBy, MaskOf, withCurrency, markedBy, marked, lowestMissing}
 

@@ -1,5 +1,3 @@
--- no record is refused for one of 16 to 18
-pub mod Causes
 -- the ways out of `assess`, and its face
 pub mod Outcome
 pub mod FaceLaws

@@ -20,9 +20,8 @@ use Rattle.paper.specs.Ledger.{totals, curved, cells, figures, ledgerOf}
 use Rattle.paper.specs.TurnedDown.{lacksCurve, badCapital, longestBook, bookTooLong, roomTooSmall}
 use Rattle.paper.specs.Verdict.{reportOf}
 use Rattle.paper.specs.Book.{walk, covered, outcome, touchesNothing, reportAfter, ledgerAfter}
-use Rattle.paper.proofs.Known.{Known, known-of, chain, unless-known}
-use Rattle.paper.proofs.KindLaws.{through}
-use Rattle.paper.proofs.Walked.{Good, good-none, walk-good}
+use Rattle.paper.proofs.Checks.{Known, known-of, cause-of, unless-known, through}
+use Rattle.paper.proofs.Walk.{Good, records-good}
 use Rattle.arrays.specs.Masks.{curvedBy, MaskOf}
 use Rattle.arrays.specs.Rooms.{totalsBy}
 use Rattle.arrays.specs.Arrays.{Arrays, arraysAs, arraysOf, Sized}
@@ -34,7 +33,6 @@ use Rattle.load.specs.Load.{ofRecords, AllLoaded}
 use Rattle.book.specs.declared.assess.Assessed.{Assessed}
 use Rattle.book.specs.declared.assess.Assessed.the-variants as assessed
 use Rattle.book.specs.Assessed.{told, answerOf, turnedAway, Answers, Assesses}
-use Rattle.book.proofs.Causes.{records-clear}
 
 -- ---- by the outcome
 
@@ -74,25 +72,21 @@ nothing-yet ledger before long e = rw (e, long) (sym nothing-kept)
 
 -- ---- what is known of the records of a book that is loaded
 
-records-good : (book : List ℕ) → Known Good (ofRecords book)
-unfolding walk covered
-records-good book = chain (walk-good currencies (length book) book 0 [] good-none) (λ kept h. unless-known Good _ _ _ kept (λ t. h))
-
 records-covered : (book : List ℕ) → Known (λ kept. first (lacksCurve kept) 1 currencies ≡ suc currencies) (ofRecords book)
 unfolding covered
 records-covered book =
-    through (walk currencies book) (λ kept. unless-known _ _ _ _ kept (λ t.
+    through (walk currencies book) (λ kept. unless-known _ _ _ kept tt (λ t.
     let above : currencies < first (lacksCurve kept) 1 currencies = leb-false (first (lacksCurve kept) 1 currencies) currencies t in
     omega (arith, first-to (lacksCurve kept) 1 currencies)))
 
 module _ (book : List ℕ) (T : ℕ) (report ledger : List ℤ) (ledger-long : length ledger ≡ cells currencies) where
   pub answers-refused : (full ledger' : List ℤ) (f : Fault) → ofRecords book ≡ refused (f .cause) (f .place) → length full ≡ cells currencies → ledger' ≡ replicate (length full) (pos 0)
       → Answers (ofRecords book) T report ledger (assessed.Refused f) report ledger'
-  answers-refused full ledger' f e same is-clear = cleared full ledger' f e (records-clear book (f .cause) (f .place) e) ledger-long same is-clear
+  answers-refused full ledger' f e same is-clear = cleared full ledger' f e (cause-of (records-good currencies book) (f .cause) (f .place) e) ledger-long same is-clear
 
   module _ (curves : ℕ) (a : Arrays) (all : AllLoaded book curves a) where
     good : Good (all .kept)
-    good = known-of (records-good book) (all .kept) (all .loaded)
+    good = known-of (records-good currencies book) (all .kept) (all .loaded)
 
     -- what the report may rely on
     pub all-sized : Sized currencies a

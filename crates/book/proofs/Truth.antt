@@ -14,7 +14,7 @@ use Rattle.paper.specs.Change.{change, tolerance}
 use Rattle.paper.specs.Verdict.{changesOf, reportFrom, reportOf}
 use Rattle.paper.specs.Book.{outcome, reportAfter}
 use Rattle.paper.specs.Demand3.{figure, Demand3}
-use Rattle.paper.proofs.Accepted.{accepted-true}
+use Rattle.paper.proofs.Demand3.{accepted-true}
 use Rattle.book.specs.declared.assess.Assessed.{Assessed}
 use Rattle.book.specs.Assessed.{Assesses, Truthful}
 

@@ -10,7 +10,7 @@ use Rattle.laws.proofs.Nearest.{nearest-le}
 use Rattle.paper.specs.Scales.{billion}
 use Rattle.paper.specs.Factor.{entry}
 use Rattle.paper.proofs.SeriesLaws.{under-least, over-positive}
-use Rattle.paper.proofs.Written.{written, entry-written}
+use Rattle.paper.proofs.FactorTable.{written, entry-written}
 use Rattle.factor.specs.Table.{rows}
 
 -- as the paper has the numbers written, each tested by the series

@@ -10,12 +10,12 @@ use Rattle.paper.specs.declared.Refusal.the-variants.{UnknownKind, OverLimit}
 use Rattle.paper.specs.Ladder.{buckets}
 use Rattle.paper.specs.Flow.{flow, adds, gives, magnitude}
 use Rattle.paper.specs.Refusals.{Checked, accepted, refused, _>>=_, unless}
-use Rattle.paper.specs.Records.{Record, currencies}
+use Rattle.paper.specs.Records.{Record, bodyLength, currencies}
 use Rattle.paper.specs.Ledger.{SoFar}
 use Rattle.paper.specs.TurnedDown.{overLimit}
 use Rattle.paper.specs.Decode.{decode}
 use Rattle.paper.specs.Book.{admitted}
-use Rattle.paper.proofs.Known.{Known, known-of, chain, unless-known}
+use Rattle.paper.proofs.Checks.{Known, known-of, chain, unless-known}
 use Rattle.paper.proofs.KindLaws.{FlowsOnly, AddOnOnly, CurveOnly}
 use Rattle.arrays.specs.Rooms.{soFarIn}
 use Rattle.arrays.specs.Slots.{withFlows, withRates, withSizes, withAddOns, withOptionSizes, optionMagnitude}
@@ -23,13 +23,14 @@ use Rattle.arrays.specs.Arrays.{Arrays, inParts, arraysAs, PartsHold}
 use Rattle.arrays.proofs.Agree.{bind-ext}
 use Rattle.arrays.proofs.More.{same-arrays}
 use Rattle.arrays.proofs.Limit.{no-magnitude, flows-limit, options-limit, curve-limit}
+use Rattle.record.specs.Answers.{Body}
 use Rattle.posting.specs.declared.Taken.{Taken}
 use Rattle.posting.specs.declared.Taken.the-variants.{Refused}
 use Rattle.posting.specs.Parts.{FlowParts}
 use Rattle.slotting.specs.Parts.{OptionParts, RateParts}
 use Rattle.slotting.specs.Answers.{takenOf, into, flowsFit, FlowsTaken, optionsFit, OptionTaken, CurveTaken}
 use Rattle.load.specs.Step.{enteredIn, BodyTaken}
-use Rattle.load.proofs.KindTable.{OfKind, NoneOf, none-decoded}
+use Rattle.paper.proofs.KindTable.{Row, NoneOf, none-decoded}
 
 -- ---- a part with nothing joined stays
 
@@ -84,12 +85,17 @@ module _ (p : Arrays) where
 
 -- 14 keeps what is known
 fit-known : {P : Record → Type 0} (over : Record → Bool) {x : Checked Record} → Known P x → Known P (x >>= (λ r. unless (over r) OverLimit 0 r))
-fit-known {P} over h = chain h (λ r p. unless-known P (over r) OverLimit 0 r (λ _. p))
+fit-known over h = chain h (λ r p. unless-known (over r) OverLimit 0 r tt (λ _. p))
 
 -- ---- a body of a kind
 
+-- a body of the kind's length is one of the row's
+pub row-body : {code kind bytes c : ℕ} {curved : ℕ → Bool} {decodeIt : List ℕ → Checked Record} {body : List ℕ} → Row currencies kind bytes curved decodeIt → code ≡ kind
+    → Body (bodyLength code) c body → Body bytes c body
+row-body of here b = record { long = b .long ∙ ap bodyLength here ∙ of .long; first = b .first }
+
 module _ (has : Bool) (p : Arrays) (holds : PartsHold has p) {code : ℕ} (body : List ℕ) {kind bytes : ℕ} {decodeIt : List ℕ → Checked Record}
-    (of : OfKind kind bytes (λ _. has) decodeIt) (here : code ≡ kind) where
+    (of : Row currencies kind bytes (λ _. has) decodeIt) (here : code ≡ kind) where
   abbrev before : SoFar
   before = soFarIn has (p .sizes) (p .optionSizes)
 
@@ -147,4 +153,4 @@ module _ {has : Bool} {p : Arrays} (h : PartsHold has p) where
 pub unknown-body : (has : Bool) (p : Arrays) (kind : ℕ) (body : List ℕ) → NoneOf kind
     → BodyTaken (admitted currencies (soFarIn has (p .sizes) (p .optionSizes)) kind body) p (Refused (record { cause = UnknownKind; place = 0 })) p
 unfolding admitted _>>=_
-unknown-body has p kind body f = rw (none-decoded (λ _. has) kind body f) (record { answered = refl; parts = refl })
+unknown-body has p kind body f = rw (none-decoded currencies (λ _. has) kind body f) (record { answered = refl; parts = refl })

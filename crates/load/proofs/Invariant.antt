@@ -12,8 +12,8 @@ use Rattle.paper.specs.Refusals.{Checked, accepted, refused, _>>=_}
 use Rattle.paper.specs.Records.{Record, currencies, currencyOf}
 use Rattle.paper.specs.Ledger.{SoFar, soFar, curved}
 use Rattle.paper.specs.Book.{recordAt, nextAt, walkFrom, walk}
-use Rattle.paper.proofs.Known.{known-of}
-use Rattle.paper.proofs.Walked.{Good, good-none, good-more, Passed, record-passed}
+use Rattle.paper.proofs.Checks.{known-of}
+use Rattle.paper.proofs.Walk.{Good, good-none, good-more, Passed, record-passed}
 use Rattle.arrays.specs.declared.masks.Masks.{Masks}
 use Rattle.arrays.specs.Masks.{marked}
 use Rattle.arrays.specs.Rooms.{soFarBy}

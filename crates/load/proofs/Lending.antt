@@ -15,8 +15,8 @@ use Rattle.paper.specs.Ledger.{sectionSize}
 use Rattle.paper.specs.Fields.{currencyAt}
 use Rattle.paper.specs.Book.{admitted}
 use Rattle.paper.specs.Decode.{decode}
-use Rattle.paper.proofs.Known.{Known, known-of, chain, unless-known}
-use Rattle.paper.proofs.KindLaws.{first-field}
+use Rattle.paper.proofs.Checks.{Known, known-of, chain, unless-known}
+use Rattle.paper.proofs.KindTable.{first-field}
 use Rattle.arrays.specs.Masks.{curvedBy}
 use Rattle.arrays.specs.Rooms.{soFarBy, soFarIn}
 use Rattle.arrays.specs.Arrays.{Arrays, arraysAs, partOf, partsOf, withParts, withRecord, PartsHold}
@@ -35,7 +35,7 @@ part-long width n = omega arith
 pub admitted-own : (mask : ℕ) (sizes optionSizes : List ℕ) (kind : ℕ) (body : List ℕ)
     → Known (λ r. currencyAt currencies body 0 ≡ accepted (currencyOf r)) (admitted currencies (soFarBy mask sizes optionSizes) kind body)
 unfolding admitted
-admitted-own mask sizes optionSizes kind body = chain (first-field currencies _ kind body .own) (λ r e. unless-known _ _ _ _ r (λ _. e))
+admitted-own mask sizes optionSizes kind body = chain (first-field currencies _ kind body .own) (λ r e. unless-known _ _ _ r tt (λ _. e))
 
 put-back : (c : ℕ) (a : Arrays) (x : Checked Record) → ((r : Record) → x ≡ accepted r → currencyOf r ≡ c) → withParts c a (enteredIn x (partsOf c a)) ≡ entered x a
 unfolding withRecord

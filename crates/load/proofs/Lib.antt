@@ -1,5 +1,4 @@
--- the table of kinds, and what stands at a place
-pub mod KindTable
+-- what stands at a place
 pub mod Places
 -- a body in its currency's parts, and the parts put back
 pub mod Bodies

@@ -16,8 +16,8 @@ use Rattle.paper.specs.Ledger.{SoFar}
 use Rattle.paper.specs.TurnedDown.{unknownKind, cutShort}
 use Rattle.paper.specs.Fields.{byte, currencyAt}
 use Rattle.paper.specs.Book.{placed, admitted, recordAt, nextAt}
-use Rattle.paper.proofs.Known.{known-of, chain, unless-known}
-use Rattle.paper.proofs.KindLaws.{first-field}
+use Rattle.paper.proofs.Checks.{known-of, chain, unless-known}
+use Rattle.paper.proofs.KindTable.{first-field}
 use Rattle.arrays.specs.declared.masks.Masks.{Masks}
 use Rattle.arrays.specs.Masks.{markedBy}
 use Rattle.arrays.specs.Arrays.{Arrays, Holding}
@@ -180,8 +180,8 @@ module _ (before : SoFar) (kind at next c : ℕ) (body : List ℕ) (m : Masks) (
   unfolding admitted placed
   stepped-done first t e marks =
       let d = done-taken read (sym e ∙ t .answered) in
-      let own : currencyAt currencies body 0 ≡ accepted (currencyOf (d .0)) = known-of (chain (first-field currencies (before .curved) kind body .own) (λ r h. unless-known _ _ _ _ r (λ _. h))) (d .0) (d .1) in
-      let sorts : isCurve (d .0) ≡ curveKind kind = known-of (chain (first-field currencies (before .curved) kind body .marks) (λ r h. unless-known _ _ _ _ r (λ _. h))) (d .0) (d .1) in
+      let own : currencyAt currencies body 0 ≡ accepted (currencyOf (d .0)) = known-of (chain (first-field currencies (before .curved) kind body .own) (λ r h. unless-known _ _ _ r tt (λ _. h))) (d .0) (d .1) in
+      let sorts : isCurve (d .0) ≡ curveKind kind = known-of (chain (first-field currencies (before .curved) kind body .marks) (λ r h. unless-known _ _ _ r tt (λ _. h))) (d .0) (d .1) in
       let mine : c ≡ currencyOf (d .0) = cc in
       rw (d .1) (record {
         answered = ap (step.On next) (marks ∙ ap₂ (λ (b : Bool) (n : ℕ). markedBy b n m) (sym sorts) mine);

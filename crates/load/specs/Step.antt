@@ -1,13 +1,18 @@
 -- What a turn of the walk answers and leaves, by what was read at its place. A refused record changes nothing.
 use Prim.Native.Nat.{ℕ}
 use mathlib.Core.Bool.{Bool}
+use mathlib.Core.List.{List}
 use mathlib.Core.Path.{_≡_}
-use Rattle.laws.specs.Tests.{if_then_else_}
+use lib.ListN.{length}
+use Rattle.laws.specs.Tests.{if_then_else_, _upTo_}
 use Rattle.paper.specs.declared.Fault.{Fault}
 use Rattle.paper.specs.Refusals.{Checked, accepted, refused}
-use Rattle.paper.specs.Records.{Record}
+use Rattle.paper.specs.Records.{Record, currencies}
+use Rattle.paper.specs.Ledger.{SoFar}
+use Rattle.paper.specs.Book.{placed, admitted, recordAt, nextAt}
 use Rattle.arrays.specs.declared.masks.Masks.{Masks}
 use Rattle.arrays.specs.Masks.{marked}
+use Rattle.arrays.specs.Rooms.{soFarBy, soFarIn}
 use Rattle.arrays.specs.Arrays.{Arrays, inParts, withRecord}
 use Rattle.posting.specs.declared.Taken.{Taken}
 use Rattle.slotting.specs.Answers.{takenOf}
@@ -24,6 +29,9 @@ pub record BodyTaken (read : Checked Record) (p : Arrays) (answer : Taken) (p' :
   pub answered : answer ≡ takenOf read
   pub parts : p' ≡ enteredIn read p
 
+abbrev pub TakesBody : Bool → ℕ → List ℕ → Arrays → Taken → Arrays → Type 0
+TakesBody curved kind body p = BodyTaken (admitted currencies (soFarIn curved (p .sizes) (p .optionSizes)) kind body) p
+
 -- ---- and in the arrays
 
 abbrev pub entered : Checked Record → Arrays → Arrays
@@ -33,6 +41,13 @@ entered (refused q place) a = a
 pub record RecordTaken (read : Checked Record) (a : Arrays) (answer : Taken) (a' : Arrays) : Type 0 where
   pub answered : answer ≡ takenOf read
   pub arrays : a' ≡ entered read a
+
+-- what is tested against, by the mask of the currencies with a curve and by the sums
+abbrev pub tested : ℕ → Arrays → SoFar
+tested curved a = soFarBy curved (a .sizes) (a .optionSizes)
+
+abbrev pub TakesRecord : ℕ → ℕ → List ℕ → Arrays → Taken → Arrays → Type 0
+TakesRecord curved kind body a = RecordTaken (admitted currencies (tested curved a) kind body) a
 
 -- ---- a turn
 
@@ -48,7 +63,14 @@ pub record Stepped (read : Checked Record) (next : ℕ) (m : Masks) (a : Arrays)
   pub answered : answer ≡ stepped read next m
   pub arrays : a' ≡ entered read a
 
+-- of a body whose record begins at a place
+abbrev pub StepsOver : ℕ → List ℕ → (at next : ℕ) → Masks → Arrays → Step → Arrays → Type 0
+StepsOver kind body at next m a = Stepped (placed at (admitted currencies (tested (m .curved) a) kind body)) next m a
+
 -- the same at a place where the book may be over: there nothing changes
 pub record Turned (over : Bool) (read : Checked Record) (next : ℕ) (m : Masks) (a : Arrays) (answer : Step) (a' : Arrays) : Type 0 where
   pub answered : answer ≡ (if over then End else stepped read next m)
   pub arrays : a' ≡ (if over then a else entered read a)
+
+abbrev pub Turns : List ℕ → ℕ → Masks → Arrays → Step → Arrays → Type 0
+Turns book at m a = Turned (length book upTo at) (recordAt currencies (tested (m .curved) a) book at) (nextAt book at) m a

@@ -1,13 +1,12 @@
 // The kinds in code: which there are and how long a body each has, the function of each, and which of them are curves.
 ghost use mathlib.Core.Path.{_≡_};
 ghost use Prim.Native.Nat.{_≤_};
-ghost use Rattle.paper.specs.Records.{bodyLength, curveKind, currencies};
-ghost use Rattle.paper.specs.Book.{admitted};
-ghost use Rattle.arrays.specs.Rooms.{soFarIn};
-ghost use Rattle.arrays.specs.Arrays.{PartsHold, arraysAs};
+ghost use Rattle.paper.specs.Records.{bodyLength, curveKind};
+ghost use Rattle.arrays.specs.Arrays.{PartsHold};
+ghost use Rattle.arrays.specs.Lent.{lent, before, after};
 ghost use Rattle.record.specs.Answers.{Body};
 ghost use Rattle.load.specs.Reader.{standsAt};
-ghost use Rattle.load.specs.Step.{BodyTaken};
+ghost use Rattle.load.specs.Step.{TakesBody};
 use crate::reader::Found;
 use paper::Fault;
 use paper::Refusal;
@@ -21,21 +20,21 @@ use slotting::option_add_on::take_option;
 use slotting::single::take_single;
 use slotting::term_deposit::take_term_deposit;
 
-// The bytes of a kind's body; 0 where there is no such kind.
+const KINDS: usize = 8;
+
+// The bytes of a kind's body, by its number; there is no kind 0.
+const BODY_LENGTHS: [usize; KINDS + 1] = [0, 9, 13, 13, 82, 155, 79, 26, 83];
+
+// 0 where there is no such kind.
 fn body_length(kind: u8) -> usize
-    ensures { λ r. ⌜ (r ≡ bodyLength kind) × (r ≤ 155) ⌝ }
+    ensures { λ r. ⌜ (r ≡ bodyLength kind) × (r ≤ 255) ⌝ }
 {
-    match kind {
-        1 => 9,
-        2 => 13,
-        3 => 13,
-        4 => 82,
-        5 => 155,
-        6 => 79,
-        7 => 26,
-        8 => 83,
-        _ => 0,
+    let lengths = BODY_LENGTHS;
+    let row = kind as usize;
+    if row <= KINDS {
+        return lengths[row];
     }
+    0
 }
 
 pub fn stands_at(book: &[u8], at: usize) -> Found
@@ -70,8 +69,8 @@ pub fn take_body(
     options: &mut [u64],
 ) -> Taken
     requires { ⌜ Body (bodyLength kind) currency (now body) ⌝ }
-    requires { ⌜ PartsHold curved (arraysAs (now section) (now rates) (now addons) (now sizes) (now options)) ⌝ }
-    ensures { λ r. ⌜ BodyTaken (admitted currencies (soFarIn curved (now (sizes .entry)) (now (options .entry))) kind (now (body .entry))) (arraysAs (now (section .entry)) (now (rates .entry)) (now (addons .entry)) (now (sizes .entry)) (now (options .entry))) r (arraysAs (now (section .exit)) (now (rates .exit)) (now (addons .exit)) (now (sizes .exit)) (now (options .exit))) ⌝ }
+    requires { ⌜ PartsHold curved (lent section rates addons sizes options) ⌝ }
+    ensures { λ r. ⌜ TakesBody curved kind (now (body .entry)) (before section rates addons sizes options) r (after section rates addons sizes options) ⌝ }
 {
     match kind {
         1 => take_single(currency, body, section, sizes),

@@ -1,7 +1,8 @@
 // The book is walked record by record into the working arrays, and then 15 is tested (01, "Records", "Turned down").
 ghost use mathlib.Core.List.{[]};
 ghost use mathlib.Core.Path.{_≡_};
-ghost use Rattle.arrays.specs.Arrays.{arraysOf, arraysAs};
+ghost use Rattle.arrays.specs.Arrays.{arraysOf};
+ghost use Rattle.arrays.specs.Lent.{lent, after};
 ghost use Rattle.load.specs.Load.{Loads};
 use arrays::masks::lowest_missing;
 use paper::CURRENCIES;
@@ -29,8 +30,8 @@ pub fn load(
     sizes: &mut [u64],
     options: &mut [u64],
 ) -> Loaded
-    requires { ⌜ arraysAs (now ledger) (now rates) (now addons) (now sizes) (now options) ≡ arraysOf [] ⌝ }
-    ensures { λ r. ⌜ Loads (now (book .entry)) r (arraysAs (now (ledger .exit)) (now (rates .exit)) (now (addons .exit)) (now (sizes .exit)) (now (options .exit))) ⌝ }
+    requires { ⌜ lent ledger rates addons sizes options ≡ arraysOf [] ⌝ }
+    ensures { λ r. ⌜ Loads (now (book .entry)) r (after ledger rates addons sizes options) ⌝ }
 {
     match walk(book, ledger, rates, addons, sizes, options) {
         Walked::Refused(fault) => Loaded::Refused(fault),

@@ -4,14 +4,12 @@ ghost use mathlib.Core.Bool.{false};
 ghost use mathlib.Core.Path.{_≡_};
 ghost use Prim.Native.Nat.{_≤_};
 ghost use lib.ListN.{length};
-ghost use Rattle.laws.specs.Tests.{_upTo_};
 ghost use Rattle.paper.specs.Records.{currencies, bodyLength};
 ghost use Rattle.paper.specs.TurnedDown.{unknownKind};
-ghost use Rattle.paper.specs.Book.{placed, admitted, recordAt, nextAt};
-ghost use Rattle.arrays.specs.Rooms.{soFarBy};
-ghost use Rattle.arrays.specs.Arrays.{Holding, arraysAs};
+ghost use Rattle.arrays.specs.Arrays.{Holding};
+ghost use Rattle.arrays.specs.Lent.{lent, before, after};
 ghost use Rattle.record.specs.Answers.{Body};
-ghost use Rattle.load.specs.Step.{RecordTaken, Stepped, Turned, faultAt};
+ghost use Rattle.load.specs.Step.{TakesRecord, StepsOver, Turns, faultAt};
 use crate::kinds::curve_kind;
 use crate::kinds::take_body;
 use crate::reader::Found;
@@ -55,8 +53,8 @@ fn take_parts(
     options: &mut [u64],
 ) -> Taken
     requires { ⌜ Body (bodyLength kind) currency (now body) × (1 ≤ currency) × (currency ≤ currencies) ⌝ }
-    requires { ⌜ Holding (record { used = 0; curved = curved }) (arraysAs (now ledger) (now rates) (now addons) (now sizes) (now options)) ⌝ }
-    ensures { λ r. ⌜ RecordTaken (admitted currencies (soFarBy curved (now (sizes .entry)) (now (options .entry))) kind (now (body .entry))) (arraysAs (now (ledger .entry)) (now (rates .entry)) (now (addons .entry)) (now (sizes .entry)) (now (options .entry))) r (arraysAs (now (ledger .exit)) (now (rates .exit)) (now (addons .exit)) (now (sizes .exit)) (now (options .exit))) ⌝ }
+    requires { ⌜ Holding (record { used = 0; curved = curved }) (lent ledger rates addons sizes options) ⌝ }
+    ensures { λ r. ⌜ TakesRecord curved kind (now (body .entry)) (before ledger rates addons sizes options) r (after ledger rates addons sizes options) ⌝ }
 {
     let part = currency as usize - 1;
     let cell = SECTION * part;
@@ -92,8 +90,8 @@ fn take_record(
     options: &mut [u64],
 ) -> Step
     requires { ⌜ (length (now body) ≡ bodyLength kind) × (unknownKind kind ≡ false) ⌝ }
-    requires { ⌜ Holding masks (arraysAs (now ledger) (now rates) (now addons) (now sizes) (now options)) ⌝ }
-    ensures { λ r. ⌜ Stepped (placed at (admitted currencies (soFarBy (masks .curved) (now (sizes .entry)) (now (options .entry))) kind (now (body .entry)))) next masks (arraysAs (now (ledger .entry)) (now (rates .entry)) (now (addons .entry)) (now (sizes .entry)) (now (options .entry))) r (arraysAs (now (ledger .exit)) (now (rates .exit)) (now (addons .exit)) (now (sizes .exit)) (now (options .exit))) ⌝ }
+    requires { ⌜ Holding masks (lent ledger rates addons sizes options) ⌝ }
+    ensures { λ r. ⌜ StepsOver kind (now (body .entry)) at next masks (before ledger rates addons sizes options) r (after ledger rates addons sizes options) ⌝ }
 {
     let read = currency_at(body, 0);
     let Field::Value(currency) = read else {
@@ -127,8 +125,8 @@ pub fn turn(
     sizes: &mut [u64],
     options: &mut [u64],
 ) -> Step
-    requires { ⌜ Holding masks (arraysAs (now ledger) (now rates) (now addons) (now sizes) (now options)) ⌝ }
-    ensures { λ r. ⌜ Turned (length (now (book .entry)) upTo at) (recordAt currencies (soFarBy (masks .curved) (now (sizes .entry)) (now (options .entry))) (now (book .entry)) at) (nextAt (now (book .entry)) at) masks (arraysAs (now (ledger .entry)) (now (rates .entry)) (now (addons .entry)) (now (sizes .entry)) (now (options .entry))) r (arraysAs (now (ledger .exit)) (now (rates .exit)) (now (addons .exit)) (now (sizes .exit)) (now (options .exit))) ⌝ }
+    requires { ⌜ Holding masks (lent ledger rates addons sizes options) ⌝ }
+    ensures { λ r. ⌜ Turns (now (book .entry)) at masks (before ledger rates addons sizes options) r (after ledger rates addons sizes options) ⌝ }
 {
     match found_at(book, at) {
         Found::End => Step::End,

@@ -1,7 +1,8 @@
 // The walk over the book: its records from the first byte on, until they end or one is refused.
 ghost use mathlib.Core.List.{[]};
 ghost use mathlib.Core.Path.{_≡_};
-ghost use Rattle.arrays.specs.Arrays.{arraysOf, arraysAs};
+ghost use Rattle.arrays.specs.Arrays.{arraysOf};
+ghost use Rattle.arrays.specs.Lent.{lent, after};
 ghost use Rattle.load.specs.Walk.{Walks};
 use crate::turn::Step;
 use crate::turn::turn;
@@ -22,8 +23,8 @@ pub fn walk(
     sizes: &mut [u64],
     options: &mut [u64],
 ) -> Walked
-    requires { ⌜ arraysAs (now ledger) (now rates) (now addons) (now sizes) (now options) ≡ arraysOf [] ⌝ }
-    ensures { λ r. ⌜ Walks (now (book .entry)) r (arraysAs (now (ledger .exit)) (now (rates .exit)) (now (addons .exit)) (now (sizes .exit)) (now (options .exit))) ⌝ }
+    requires { ⌜ lent ledger rates addons sizes options ≡ arraysOf [] ⌝ }
+    ensures { λ r. ⌜ Walks (now (book .entry)) r (after ledger rates addons sizes options) ⌝ }
 {
     let mut at = 0;
     let mut masks = Masks { used: 0, curved: 0 };

@@ -23,7 +23,7 @@ use Rattle.paper.specs.Decode.{decodeSingle, decodeCurve, decode}
 use Rattle.paper.specs.Factor.{digit}
 use Rattle.paper.specs.Change.{exponent, netSize, toleranceOf, tolerance}
 use Rattle.paper.specs.Verdict.{scenarioSum, measure, worst, totalTolerance, verdict, verdictNumber, changesOf, listed, reportFrom, reportOf}
-use Rattle.paper.proofs.Written.{table, written, afterWritten, factorWritten, valueBy, changeBy, report-written}
+use Rattle.paper.proofs.FactorTable.{table, written, afterWritten, factorWritten, valueBy, changeBy, report-written}
 use Rattle.paper.specs.Book.{placed, admitted, recordAt, nextAt, walkFrom, walk, covered, outcome}
 
 -- a curve for currency 1, all rates 0, shocks 400, 0, 0; one asset, (241,0), 1,000,000

@@ -2,7 +2,7 @@
 pub mod Cases
 pub mod Rules
 pub mod Bytes
-pub mod Decoded
+pub mod DecodeCases
 pub mod Outcomes
 -- ladder, behaviour, magnitudes, and what refusal 14 leaves
 pub mod Buckets
@@ -13,11 +13,11 @@ pub mod Magnitudes
 pub mod Limits
 -- what is known of accepted fields, records and books
 pub mod Numbers
-pub mod Known
+pub mod Checks
 pub mod Ranges
-pub mod Sound
 pub mod KindLaws
-pub mod Walked
+pub mod KindTable
+pub mod Walk
 -- demand 3: the series, the factor, a change, the measure, the verdict, each against the exact one
 pub mod Terms
 pub mod SeriesLaws
@@ -27,13 +27,13 @@ pub mod ChangeClose
 pub mod MeasureClose
 pub mod VerdictSound
 -- the report's list against the definitions by currency and scenario
-pub mod Listed
+pub mod ReportList
 pub mod Report
-pub mod Unused
+pub mod EmptyCurrency
 -- demand 3 for every accepted book
-pub mod Accepted
+pub mod Demand3
 -- the table of tables written out, by which a report is cheap to compute
-pub mod Written
+pub mod FactorTable
 pub mod Example
 pub mod TwoCurrencies
-pub mod Printed
+pub mod PrintCases

@@ -2,7 +2,7 @@
 use Prim.Native.Nat.{ℕ, zero, suc, _+_, _*_, _-_, _≤_, _<_}
 use mathlib.Core.Bool.{Bool, true, false}
 use mathlib.Core.List.{List}
-use mathlib.Core.Path.{_≡_, refl, ap, _∙_}
+use mathlib.Core.Path.{_≡_, refl, sym, ap, _∙_}
 use native.Mathlib.Omega.{arith}
 use lib.IntN.{ℤ, pos, negℤ, natAbs}
 use lib.ListN.{getD, length}
@@ -13,7 +13,7 @@ use Rattle.laws.proofs.Sums.{sum-ext, sum-add, sum-le, sum-nil, sum-only}
 use Rattle.laws.proofs.Totals.{sum-getD}
 use Rattle.paper.specs.Ladder.{buckets, Term, inMonths, bucketOf}
 use Rattle.paper.specs.Curve.{Curve}
-use Rattle.paper.specs.Records.{single, coupons, floating, deposit, loan, termDeposit, flows, option, curve}
+use Rattle.paper.specs.Records.{Flows, coupons, deposit, loan, termDeposit, flows, option, curve}
 use Rattle.paper.specs.Behaviour.{depositFlow, prepaymentRate, withdrawalRate, paidAt, prepaidAt, interestAt, loanFlow, termDepositFlow}
 use Rattle.paper.specs.Flow.{sided, due, couponsDue, flowOf, flow, magnitude}
 use Rattle.paper.proofs.Buckets.{InBucket, in-bucket}
@@ -50,9 +50,10 @@ abs-sided side z = by (side is 1)
     by false = abs-neg z
 
 module _ (c i : ℕ) where
-  pub size-single : (side : ℕ) (term : Term) (amount : ℕ) → magnitude (flows c (single side term amount)) i ≡ amount
-  unfolding magnitude flow flowOf
-  size-single side term amount = sum-ext _ _ buckets (λ k _. abs-sided side (pos (due term amount k))) ∙ due-once term amount
+  -- one amount due at a term
+  pub size-due : (f : Flows) (side : ℕ) (term : Term) (amount : ℕ) → ((k : ℕ) → sided side (pos (due term amount k)) ≡ flowOf f i k) → magnitude (flows c f) i ≡ amount
+  unfolding magnitude flow
+  size-due f side term amount are = sum-ext _ _ buckets (λ k _. ap natAbs (sym (are k)) ∙ abs-sided side (pos (due term amount k))) ∙ due-once term amount
 
   pub size-coupons : (side period count coupon principal : ℕ) → magnitude (flows c (coupons side period count coupon principal)) i ≡ count * coupon + principal
   unfolding magnitude flow flowOf
@@ -61,10 +62,6 @@ module _ (c i : ℕ) where
       sum-ext _ _ buckets (λ k _. abs-sided side (pos (couponsDue period count coupon k + due last principal k)))
       ∙ sum-add (couponsDue period count coupon) (due last principal) buckets
       ∙ omega (arith, coupons-add-up period count coupon, due-once last principal)
-
-  pub size-floating : (side : ℕ) (reset : Term) (principal coupon : ℕ) → magnitude (flows c (floating side reset principal coupon)) i ≡ principal + coupon
-  unfolding magnitude flow flowOf
-  size-floating side reset principal coupon = sum-ext _ _ buckets (λ k _. abs-sided side (pos (due reset (principal + coupon) k))) ∙ due-once reset (principal + coupon)
 
   pub size-deposit : (category whole : ℕ) (core : List ℕ) → length core ≤ buckets → sumOf core ≤ whole → magnitude (flows c (deposit category whole core)) i ≡ whole
   unfolding magnitude flow flowOf

@@ -1,20 +1,32 @@
--- What a field lies in when its circumstance does not hold.
-use Prim.Native.Nat.{ℕ, suc, _+_, _*_, _≤_, _<_}
+-- What a field lies in once it is read, and what the rules after the fields leave; a refusal on the way is one of a record.
+use Prim.Native.Nat.{ℕ, zero, suc, _*_, _≤_, _<_}
 use mathlib.Core.Bool.{Bool, true, false, not, _&&_, _||_}
+use mathlib.Core.List.{List}
 use mathlib.Core.Logic.{⊎-elim}
 use mathlib.Core.Path.{_≡_, refl}
+use native.Mathlib.Nat.{eq-zero-or-pos, mul-le-mul-right}
 use native.Mathlib.Omega.{arith}
-use lib.IntN.{ℤ, pos, negℤ, natAbs}
+use lib.IntN.{ℤ, pos, negℤ, +ℤ-idr}
+use lib.ListN.{getD}
 use lib.Signed.{ltZ}
-use borrow.Author.Tests.{leb-true, ltb-false, eqb-true, not-false}
-use Rattle.laws.specs.Tests.{_is_, _upTo_, _below_}
-use Rattle.laws.specs.Integers.{up, down}
-use Rattle.laws.proofs.Tests.{and-true, or-true, or-false}
+use borrow.Author.Tests.{leb-true, ltb-false, eqb-true, not-true, not-false}
+use Rattle.laws.specs.Tests.{_is_, _upTo_, _below_, all, first}
+use Rattle.laws.specs.Sums.{sumOf}
+use Rattle.laws.proofs.Tests.{and-true, or-true, or-false, all-at, first-to, first-none}
 use Rattle.laws.proofs.Integers.{side}
 use Rattle.laws.proofs.Order.{ltZ-false}
+use Rattle.paper.specs.Refusals.{numberOf}
 use Rattle.paper.specs.Scales.{billion}
-use Rattle.paper.specs.TurnedDown.{badCurrency, badSide, badMonths, badDays, badPeriod, badCount, badAmount, badOption, badShare, badCategory, badRate, badShock}
-use Rattle.paper.specs.Sound.{Between, Counted, Small, Ranged}
+use Rattle.paper.specs.Ladder.{buckets}
+use Rattle.paper.specs.Curve.{Curve, rateChanges, shockedRate}
+use Rattle.paper.specs.Behaviour.{coreCap}
+use Rattle.paper.specs.TurnedDown.{badCurrency, badSide, badMonths, badDays, badPeriod, badCount, badAmount, badOption, badShare, badCategory, badRate, badShock, coreAboveCap, badShocked}
+use Rattle.paper.specs.Fields.{currencyAt, sideAt, monthsAt, daysAt, periodAt, countAt, amountAt, optionAt, shareAt, categoryAt, rateAt, shockAt, each}
+use Rattle.paper.specs.Book.{touchesNothing}
+use Rattle.paper.specs.Sound.{Between, Counted, Small, Ranged, Listed, Amounts}
+use Rattle.paper.proofs.Checks.{Checks, Clears, field-known, each-known}
+
+-- ---- by the circumstance
 
 between-tested : (low high x : ℕ) → not (low upTo x && x upTo high) ≡ false → Between low high x
 between-tested low high x e =
@@ -24,39 +36,7 @@ between-tested low high x e =
 up-to-tested : (high x : ℕ) → (high below x) ≡ false → Between 0 high x
 up-to-tested high x e = record { from = omega arith; to = ltb-false high x e }
 
-pub currency-range : (top c : ℕ) → badCurrency top c ≡ false → Between 1 top c
-unfolding badCurrency
-currency-range top c e = between-tested 1 top c e
-
-pub side-range : (s : ℕ) → badSide s ≡ false → Between 1 2 s
-unfolding badSide
-side-range s e = between-tested 1 2 s e
-
-pub months-range : (m : ℕ) → badMonths m ≡ false → Between 0 600 m
-unfolding badMonths
-months-range m e = up-to-tested 600 m e
-
-pub days-range : (d : ℕ) → badDays d ≡ false → Between 0 30 d
-unfolding badDays
-days-range d e = up-to-tested 30 d e
-
-pub amount-range : (a : ℕ) → badAmount a ≡ false → Between 0 billion a
-unfolding badAmount
-amount-range a e = up-to-tested billion a e
-
-pub share-range : (s : ℕ) → badShare s ≡ false → Between 0 10000 s
-unfolding badShare
-share-range s e = up-to-tested 10000 s e
-
-pub category-range : (c : ℕ) → badCategory c ≡ false → Between 1 3 c
-unfolding badCategory
-category-range c e = between-tested 1 3 c e
-
-pub shock-range : (s : ℕ) → badShock s ≡ false → Between 0 1000 s
-unfolding badShock
-shock-range s e = up-to-tested 1000 s e
-
-pub period-range : (p : ℕ) → badPeriod p ≡ false → Between 1 12 p
+period-range : (p : ℕ) → badPeriod p ≡ false → Between 1 12 p
 unfolding badPeriod
 period-range p e =
     ⊎-elim (λ u. ⊎-elim (λ v. ⊎-elim (this 1 (omega arith) (omega arith)) (this 3 (omega arith) (omega arith)) (or-true (p is 1) (p is 3) v))
@@ -66,18 +46,110 @@ period-range p e =
     this : (q : ℕ) → 1 ≤ q → q ≤ 12 → (p is q) ≡ true → Between 1 12 p
     this q low high t = let same = eqb-true p q t in record { from = omega arith; to = omega arith }
 
-pub count-range : (period count : ℕ) → badCount period count ≡ false → Counted period count
+count-range : (period count : ℕ) → badCount period count ≡ false → Counted period count
 unfolding badCount
 count-range period count e =
     let both = or-false (count below 1) (600 below period * count) e in
     record { some = ltb-false _ _ (both .0); last = ltb-false _ _ (both .1) }
 
-pub option-range : (z : ℤ) → badOption z ≡ false → Small z
-unfolding badOption
-option-range z e = record { small = ltb-false _ _ e }
+pub shock-range : (s : ℕ) → badShock s ≡ false → Between 0 1000 s
+unfolding badShock
+shock-range s e = up-to-tested 1000 s e
 
-pub rate-range : (z : ℤ) → badRate z ≡ false → Ranged z
+rate-range : (z : ℤ) → badRate z ≡ false → Ranged z
 unfolding badRate
 rate-range z e =
     let both = or-false (ltZ z (negℤ (pos 50000))) (ltZ (pos 300000) z) e in
     record { low = omega (arith, side z, ltZ-false z (negℤ (pos 50000)) (both .0)); high = omega (arith, side z, ltZ-false (pos 300000) z (both .1)) }
+
+-- ---- the fields
+
+module _ (body : List ℕ) (o : ℕ) where
+  pub currency-known : (top : ℕ) → Checks Clears (Between 1 top) (currencyAt top body o)
+  unfolding badCurrency touchesNothing numberOf
+  currency-known top = field-known (between-tested 1 top) _ _ _ refl
+
+  pub side-known : Checks Clears (Between 1 2) (sideAt body o)
+  unfolding badSide touchesNothing numberOf
+  side-known = field-known (between-tested 1 2) _ _ _ refl
+
+  pub months-known : Checks Clears (Between 0 600) (monthsAt body o)
+  unfolding badMonths touchesNothing numberOf
+  months-known = field-known (up-to-tested 600) _ _ _ refl
+
+  pub days-known : Checks Clears (Between 0 30) (daysAt body o)
+  unfolding badDays touchesNothing numberOf
+  days-known = field-known (up-to-tested 30) _ _ _ refl
+
+  pub period-known : Checks Clears (Between 1 12) (periodAt body o)
+  unfolding touchesNothing numberOf
+  period-known = field-known period-range _ _ _ refl
+
+  pub count-known : (period : ℕ) → Checks Clears (Counted period) (countAt period body o)
+  unfolding touchesNothing numberOf
+  count-known period = field-known (count-range period) _ _ _ refl
+
+  pub amount-known : Checks Clears (Between 0 billion) (amountAt body o)
+  unfolding badAmount touchesNothing numberOf
+  amount-known = field-known (up-to-tested billion) _ _ _ refl
+
+  pub option-known : Checks Clears Small (optionAt body o)
+  unfolding badOption touchesNothing numberOf
+  option-known = field-known (λ z e. record { small = ltb-false _ _ e }) _ _ _ refl
+
+  pub share-known : Checks Clears (Between 0 10000) (shareAt body o)
+  unfolding badShare touchesNothing numberOf
+  share-known = field-known (up-to-tested 10000) _ _ _ refl
+
+  pub category-known : Checks Clears (Between 1 3) (categoryAt body o)
+  unfolding badCategory touchesNothing numberOf
+  category-known = field-known (between-tested 1 3) _ _ _ refl
+
+  pub rate-known : Checks Clears Ranged (rateAt body o)
+  unfolding touchesNothing numberOf
+  rate-known = field-known rate-range _ _ _ refl
+
+  pub shock-known : Checks Clears (Between 0 1000) (shockAt body o)
+  unfolding touchesNothing numberOf
+  shock-known = field-known shock-range _ _ _ refl
+
+-- nineteen amounts, and nineteen rates
+pub amounts-known : (body : List ℕ) (o : ℕ) → Checks Clears Amounts (each (amountAt body) buckets o)
+amounts-known body o = each-known (amount-known body) buckets o
+
+pub rates-known : (body : List ℕ) (o : ℕ) → Checks Clears (Listed Ranged buckets) (each (rateAt body) buckets o)
+rates-known body o = each-known (rate-known body) buckets o
+
+-- ---- the rules after the fields
+
+cap-at-most : (category : ℕ) → coreCap category ≤ 90
+cap-at-most zero = omega arith
+cap-at-most (suc zero) = omega arith
+cap-at-most (suc (suc zero)) = omega arith
+cap-at-most (suc (suc (suc zero))) = omega arith
+cap-at-most (suc (suc (suc (suc n)))) = omega arith
+
+pub core-within : (category whole : ℕ) (core : List ℕ) → coreAboveCap category whole core ≡ false → sumOf core ≤ whole
+unfolding coreAboveCap
+core-within category whole core e =
+    let capped : 100 * sumOf core ≤ coreCap category * whole = ltb-false _ _ e in
+    omega (arith, mul-le-mul-right whole (cap-at-most category))
+
+pub none-bad : (p : ℕ → Bool) → (first p 0 buckets below buckets) ≡ false → (k : ℕ) → k < buckets → p k ≡ false
+none-bad p e k l =
+    let end : buckets ≤ first p 0 buckets = ltb-false _ _ e in
+    first-none p 0 buckets (omega (arith, first-to p 0 buckets)) k (omega arith) l
+
+pub shocked-ranged : (z : Curve) → Listed Ranged buckets (z .rates) → ((k : ℕ) → k < buckets → badShocked z k ≡ false)
+    → (i k : ℕ) → i < 7 → k < buckets → Ranged (shockedRate z i k)
+unfolding shockedRate rateChanges badShocked
+shocked-ranged z base ok i k l m = ⊎-elim still moved (eq-zero-or-pos i)
+  where
+    fits : ℕ → Bool
+    fits j = not (badRate (shockedRate z j k))
+
+    still : i ≡ 0 → Ranged (shockedRate z i k)
+    still e = rw e (rw (+ℤ-idr (getD (z .rates) k (pos 0))) (base .at (pos 0) k m))
+
+    moved : 0 < i → Ranged (shockedRate z i k)
+    moved p = rate-range (shockedRate z i k) (not-true _ (all-at fits 1 6 (not-false (all fits 1 6) (ok k m)) i p l))

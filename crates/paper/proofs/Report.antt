@@ -11,7 +11,7 @@ use Rattle.laws.proofs.Lists.{tabulate-length, tabulateFrom-length, tabulateFro
 use Rattle.paper.specs.Ledger.{Totals}
 use Rattle.paper.specs.Change.{change, tolerance}
 use Rattle.paper.specs.Verdict.{scenarioSum, measure, worst, totalTolerance, verdict, verdictNumber, changesOf, changeAt, listed, reportFrom, reportOf, sumAt, measureAt, worstAt, toleranceAt, verdictAt}
-use Rattle.paper.proofs.Listed.{change-listed, sum-listed, measure-listed, worst-listed}
+use Rattle.paper.proofs.ReportList.{change-listed, sum-listed, measure-listed, worst-listed}
 
 -- a number past the first of two lists
 past : (xs ys : List ℤ) (n j : ℕ) → length xs ≡ n → getD (xs ++ ys) (n + j) (pos 0) ≡ getD ys j (pos 0)

@@ -25,7 +25,7 @@ use Rattle.paper.specs.Change.{exponent, netSize, toleranceOf, tolerance
 use Rattle.paper.specs.Verdict.{scenarioSum, measure, worst, totalTolerance, verdict, verdictNumber, changesOf, listed, reportFrom, reportOf}
 use Rattle.paper.specs.Book.{placed, admitted, recordAt, nextAt, walkFrom, walk, covered, outcome}
 use Rattle.paper.proofs.Bytes.{in4, rates, singleBody, curveBody}
-use Rattle.paper.proofs.Written.{table, written, afterWritten, factorWritten, valueBy, changeBy, report-written}
+use Rattle.paper.proofs.FactorTable.{table, written, afterWritten, factorWritten, valueBy, changeBy, report-written}
 
 -- rates 0 and parallel shocks of 400 in both; an asset in 1 and a liability in 2, both of 1,000,000 at (241,0)
 unfoldable pub book : List ℕ

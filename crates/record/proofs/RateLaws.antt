@@ -18,8 +18,8 @@ use Rattle.paper.specs.Refusals.{Checked, accepted, refused}
 use Rattle.paper.specs.TurnedDown.{badRate}
 use Rattle.paper.specs.Fields.{four, signed, rateAt, each}
 use Rattle.paper.specs.Sound.{Listed, Ranged}
-use Rattle.paper.proofs.Known.{known-of, field-known, each-known}
-use Rattle.paper.proofs.Ranges.{rate-range}
+use Rattle.paper.proofs.Checks.{known-of}
+use Rattle.paper.proofs.Ranges.{rates-known}
 use Rattle.record.specs.declared.rates.Rates.{Rates}
 use Rattle.record.specs.declared.rates.Rates.the-variants.{All, Bad}
 use Rattle.record.specs.Answers.{rateOf, ratesFrom, goodRates, ratesSet, ratesOf}
@@ -93,4 +93,4 @@ module _ (body : List ℕ) (o : ℕ) where
       let stop : goodRates body o ≡ buckets = none-first _ 0 buckets (λ j m n. u .1 j n) in
       let list : each (rateAt body) buckets o ≡ accepted (ratesFrom body o) = t .1 ∙ ap accepted (u .0) in
       let whole : rates ≡ ratesFrom body o = h ∙ rw stop (fill-all (ratesFrom body o) room rates-length long) in
-      record { list = list; holds = whole; ranged = rw whole (known-of (each-known (λ at. field-known rate-range _ _ _) buckets o) (ratesFrom body o) list) }
+      record { list = list; holds = whole; ranged = rw whole (known-of (rates-known body o) (ratesFrom body o) list) }

@@ -17,12 +17,12 @@ use Rattle.paper.specs.declared.Fault.{Fault}
 use Rattle.paper.specs.Scales.{billion}
 use Rattle.paper.specs.Ladder.{buckets, Term, bucketOf}
 use Rattle.paper.specs.Refusals.{Checked, accepted, refused, _>>=_, unless}
-use Rattle.paper.specs.Records.{Record, Flows, flows, single, floating, currencies}
+use Rattle.paper.specs.Records.{Record, Flows, flows, currencies}
 use Rattle.paper.specs.Flow.{scenarios, shocked, sided, due, flowOf, flow, magnitude}
 use Rattle.paper.specs.Ledger.{sectionSize}
 use Rattle.paper.specs.Sound.{Amounts, SoundFlows, Sound}
-use Rattle.paper.proofs.Known.{Known, known-of}
-use Rattle.paper.proofs.Magnitudes.{size-single, size-floating}
+use Rattle.paper.proofs.Checks.{Checks, Clears, known-of}
+use Rattle.paper.proofs.Magnitudes.{size-due}
 use Rattle.arrays.specs.Slots.{plus, plusℤ, withFlows, withSizes, withAddOns, withOptionSizes, optionMagnitude, roomFor, onlyIf}
 use Rattle.record.specs.Answers.{amountsFrom}
 use Rattle.posting.specs.declared.Taken.{Taken}
@@ -90,7 +90,7 @@ entered-taken r accepts amounts side more {section = section} {sizes = sizes} pa
     })
 
 -- what a decoded record with flows is known to be
-pub flows-sound : (curved : ℕ → Bool) {c : ℕ} {f : Flows} {m : Checked Record} → Known (Sound currencies curved) m → m ≡ accepted (flows c f) → SoundFlows f
+pub flows-sound : (curved : ℕ → Bool) {c : ℕ} {f : Flows} {m : Checked Record} → Checks Clears (Sound currencies curved) m → m ≡ accepted (flows c f) → SoundFlows f
 unfolding Sound
 flows-sound curved h e = known-of h _ e .1
 
@@ -116,15 +116,9 @@ due-column side term amount section = joined-ext _+ℤ_ (pos 0) section _ _ (λ 
     by true = refl
     by false = sym (sided-nil side)
 
-module _ (c side : ℕ) (term : Term) {read : Checked Record} {section section' : List ℤ} {sizes sizes' : List ℕ} {answer : Taken} (parts : FlowParts section sizes) where
-  pub single-taken : (amount : ℕ) → read ≡ accepted (flows c (single side term amount))
-      → Entered (λ j. due term amount (j % buckets)) side (λ i. amount) section sizes answer section' sizes' → FlowsTaken read section sizes answer section' sizes'
-  unfolding flow flowOf
-  single-taken amount accepts = entered-taken _ accepts _ side _ parts (λ j l. refl) (λ i l. sym (size-single c i side term amount))
-
-  -- principal and coupon both fall at the reset
-  pub floating-taken : (principal coupon : ℕ) → read ≡ accepted (flows c (floating side term principal coupon))
-      → Entered (λ j. due term (principal + coupon) (j % buckets)) side (λ i. principal + coupon) section sizes answer section' sizes'
-      → FlowsTaken read section sizes answer section' sizes'
-  unfolding flow flowOf
-  floating-taken principal coupon accepts = entered-taken _ accepts _ side _ parts (λ j l. refl) (λ i l. sym (size-floating c i side term principal coupon))
+pub due-taken : (c : ℕ) (f : Flows) (side : ℕ) (term : Term) (amount : ℕ) {read : Checked Record} {section section' : List ℤ} {sizes sizes' : List ℕ} {answer : Taken}
+    → ((i k : ℕ) → sided side (pos (due term amount k)) ≡ flowOf f i k) → FlowParts section sizes → read ≡ accepted (flows c f)
+    → Entered (λ j. due term amount (j % buckets)) side (λ i. amount) section sizes answer section' sizes' → FlowsTaken read section sizes answer section' sizes'
+unfolding flow
+due-taken c f side term amount are parts accepts =
+    entered-taken _ accepts _ side _ parts (λ j l. are (j / buckets) (j % buckets)) (λ i l. sym (size-due c i f side term amount (are i)))

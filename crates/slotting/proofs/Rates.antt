@@ -21,8 +21,7 @@ use Rattle.paper.specs.Ledger.{sectionSize}
 use Rattle.paper.specs.TurnedDown.{badRate}
 use Rattle.paper.specs.Fields.{rateAt, each}
 use Rattle.paper.specs.Decode.{decodeCurve}
-use Rattle.paper.proofs.Known.{Known, known, gone, chain, tested}
-use Rattle.paper.proofs.KindLaws.{through}
+use Rattle.paper.proofs.Checks.{Known, known, gone, chain, tested, through}
 use Rattle.arrays.specs.Slots.{withRates}
 use Rattle.curve.specs.Shocked.{shockedSection}
 use Rattle.record.specs.Answers.{rateOf, ratesFrom, goodRates, ratesSet}
@@ -33,16 +32,16 @@ use Rattle.slotting.specs.Parts.{RateParts}
 
 known-by : {A : Type 0} {P : A → Type 0} (m : Checked A) → ((a : A) → m ≡ accepted a → P a) → Known P m
 known-by (accepted a) h = known (h a refl)
-known-by (refused r place) h = gone
+known-by (refused r place) h = gone tt
 
 -- ---- the base rates
 
 pub rates-good : (curved : ℕ → Bool) (body : List ℕ) → Known (λ r. goodRates body 1 ≡ buckets) (decodeCurve currencies curved body)
 unfolding decodeCurve goodRates
 rates-good curved body =
-    through _ (λ c. tested _ _ _ _ (λ e.
+    through _ (λ c. tested _ _ _ _ tt (λ e.
     chain (known-by (each (rateAt body) buckets 1) (λ rs f. none-first (λ k. badRate (rateOf body 1 k)) 0 buckets (λ k _ l. each-accepts _ _ _ 1 buckets rs f .1 k l))) (λ rs g.
-    through _ (λ p. through _ (λ h. through _ (λ l. tested _ _ _ _ (λ f. known g)))))))
+    through _ (λ p. through _ (λ h. through _ (λ l. tested _ _ _ _ tt (λ f. known g)))))))
 
 pub base-is : (body : List ℕ) (room : List ℤ) → goodRates body 1 ≡ buckets → length room ≡ buckets → ratesSet body 1 room ≡ ratesFrom body 1
 base-is body room good long =

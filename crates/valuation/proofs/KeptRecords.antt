@@ -12,8 +12,8 @@ use Rattle.paper.specs.TurnedDown.{lacksCurve}
 use Rattle.paper.specs.Change.{netSize}
 use Rattle.paper.specs.Verdict.{reportOf}
 use Rattle.paper.proofs.Limits.{net-limited, addOn-limited}
-use Rattle.paper.proofs.Unused.{unused-cell, unused-addOn}
-use Rattle.paper.proofs.Walked.{Good}
+use Rattle.paper.proofs.EmptyCurrency.{unused-cell, unused-addOn}
+use Rattle.paper.proofs.Walk.{Good}
 use Rattle.arrays.specs.Masks.{MaskOf, curvedBy}
 use Rattle.arrays.specs.Arrays.{arraysOf}
 use Rattle.arrays.specs.Rooms.{totalsBy}

@@ -11,8 +11,8 @@ use Rattle.paper.specs.Flow.{shocked}
 use Rattle.paper.specs.Ledger.{Totals}
 use Rattle.paper.specs.Change.{change, tolerance}
 use Rattle.paper.specs.Verdict.{scenarioSum, measure, totalTolerance, changesOf, listed, reportFrom, reportOf}
-use Rattle.paper.proofs.Listed.{measure-listed}
-use Rattle.paper.proofs.Unused.{nothing-change, nothing-tolerance}
+use Rattle.paper.proofs.ReportList.{measure-listed}
+use Rattle.paper.proofs.EmptyCurrency.{nothing-change, nothing-tolerance}
 use Rattle.valuation.specs.Bounds.{Nothing, Bounds}
 use Rattle.valuation.specs.Figures.{tolerances, withFigures, mostOfAChange, Figures}
 use Rattle.valuation.proofs.Figures.{figures-of}

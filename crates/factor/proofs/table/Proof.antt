@@ -1,6 +1,6 @@
 -- `table` meets its contract: its numbers are those that the paper has written, each tested by the series.
 use Rattle.laws.specs.Lists.{tabulateFrom}
-use Rattle.paper.proofs.Written.{table, written}
+use Rattle.paper.proofs.FactorTable.{table, written}
 use Rattle.factor.proofs.Entries.{written-rows}
 use Rattle.factor.proofs.table.Statement.{statement}
 use Rattle.factor.proofs.table.Tie as tie

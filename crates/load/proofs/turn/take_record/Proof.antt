@@ -9,8 +9,8 @@ use Rattle.paper.specs.Refusals.{accepted}
 use Rattle.paper.specs.Records.{currencies}
 use Rattle.paper.specs.Fields.{currencyAt}
 use Rattle.paper.specs.Sound.{Between}
-use Rattle.paper.proofs.Known.{known-of, field-known}
-use Rattle.paper.proofs.Ranges.{currency-range}
+use Rattle.paper.proofs.Checks.{known-of}
+use Rattle.paper.proofs.Ranges.{currency-known}
 use Rattle.arrays.specs.Masks.{markedBy}
 use Rattle.record.proofs.Reading.{value, bad}
 use Rattle.load.specs.Step.{faultAt}
@@ -30,7 +30,7 @@ module _ (c : tie.After-known-told) where
   first = value (c .before .before .before .currency-at .ensures) (c .before .read .given .1)
 
   range : Between 1 currencies currency
-  range = known-of (field-known (currency-range currencies) _ _ _) currency first
+  range = known-of (currency-known body 0 currencies) currency first
 
 currency-at-requires : tie.Need-currency-at-requires
 currency-at-requires c κs = let s = c .before .before .before in omega (arith, s .pre .0 .0, known-long (s .args .kind) (s .pre .0 .1))

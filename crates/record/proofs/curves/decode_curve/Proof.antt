@@ -13,7 +13,7 @@ use Rattle.paper.specs.Records.{currencies}
 use Rattle.paper.specs.TurnedDown.{secondCurve, badShocked}
 use Rattle.paper.specs.Fields.{rateAt, shockAt, each}
 use Rattle.paper.specs.Decode.{decodeCurve}
-use Rattle.paper.proofs.Known.{known-of, field-known}
+use Rattle.paper.proofs.Checks.{Anything, known-of, field-known}
 use Rattle.paper.proofs.Ranges.{shock-range}
 use Rattle.curve.specs.declared.Shocks.{Shocks}
 use Rattle.curve.specs.Shocked.{curveOf}
@@ -97,9 +97,9 @@ first-out-of-range-requires c κs =
     let p = p2 .before .before .before .before in (
       rated (p .before .before .before .before) .ranged,
       record {
-        parallel-most = known-of (field-known shock-range _ _ _) _ (value (p .before .before .before .shock-at .ensures) (p .before .read .given .1)) .to;
-        short-most = known-of (field-known shock-range _ _ _) _ (value (p2 .before .before .before .shock-at2 .ensures) (p2 .before .read2 .given .1)) .to;
-        long-most = known-of (field-known shock-range _ _ _) _ (value (p3 .before .before .before .shock-at3 .ensures) (p3 .before .read3 .given .1)) .to;
+        parallel-most = known-of (field-known {R = Anything} shock-range _ _ _ tt) _ (value (p .before .before .before .shock-at .ensures) (p .before .read .given .1)) .to;
+        short-most = known-of (field-known {R = Anything} shock-range _ _ _ tt) _ (value (p2 .before .before .before .shock-at2 .ensures) (p2 .before .read2 .given .1)) .to;
+        long-most = known-of (field-known {R = Anything} shock-range _ _ _ tt) _ (value (p3 .before .before .before .shock-at3 .ensures) (p3 .before .read3 .given .1)) .to;
       },
     )
 

@@ -15,7 +15,7 @@ use borrow.Author.Needs.{needs}
 use Rattle.paper.specs.Refusals.{accepted}
 use Rattle.paper.specs.Records.{flows, currencies}
 use Rattle.paper.specs.Sound.{SoundFlows}
-use Rattle.paper.proofs.Sound.{coupons-sound}
+use Rattle.paper.proofs.KindTable.{coupons-kind}
 use Rattle.record.specs.declared.coupons.Coupons.{Coupons}
 use Rattle.slotting.proofs.Flows.{flows-refused, flows-sound}
 use Rattle.slotting.proofs.coupons.take_coupons.Statement.{statement}
@@ -34,7 +34,7 @@ module _ (c : tie.After-known-told2) where
   read = sym (c .before .before .before .decode-coupons .ensures) ∙ ap (couponsRead) (c .before .bond .given .1)
 
   sound : SoundFlows (couponsOf fields)
-  sound = flows-sound (λ _. false) (coupons-sound currencies (λ _. false) body) read
+  sound = flows-sound (λ _. false) (coupons-kind currencies (λ _. false) body .sound) read
 
 decode-coupons-requires : tie.Need-decode-coupons-requires
 decode-coupons-requires c κs = c .before .before .pre .0

@@ -11,8 +11,8 @@ use Rattle.paper.specs.Ladder.{buckets}
 use Rattle.paper.specs.Records.{curve, currencies}
 use Rattle.paper.specs.Decode.{decodeCurve}
 use Rattle.paper.specs.Sound.{SoundCurve, Sound}
-use Rattle.paper.proofs.Known.{known-of}
-use Rattle.paper.proofs.Sound.{curve-sound}
+use Rattle.paper.proofs.Checks.{known-of}
+use Rattle.paper.proofs.KindTable.{rate-kind}
 use Rattle.curve.specs.Shocked.{curveOf, shockedSection}
 use Rattle.record.specs.declared.curves.Curve.{Curve}
 use Rattle.record.specs.Answers.{ratesFrom, goodRates, curveRead}
@@ -37,7 +37,7 @@ module _ (c : tie.After-known-told2) where
 
   sound : SoundCurve (λ _. curved) (fields .currency) (curveOf (ratesFrom body 1) (fields .shocks))
   unfolding Sound
-  sound = known-of (curve-sound currencies (λ _. curved) body) _ read .1
+  sound = known-of (rate-kind currencies (λ _. curved) body .sound) _ read .1
 
   good : goodRates body 1 ≡ buckets
   good = known-of (rates-good (λ _. curved) body) _ read

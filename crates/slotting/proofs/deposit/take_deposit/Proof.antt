@@ -16,7 +16,7 @@ use borrow.Author.Needs.{needs}
 use Rattle.paper.specs.Refusals.{accepted}
 use Rattle.paper.specs.Records.{flows, currencies}
 use Rattle.paper.specs.Sound.{SoundFlows}
-use Rattle.paper.proofs.Sound.{deposit-sound}
+use Rattle.paper.proofs.KindTable.{deposit-kind}
 use Rattle.record.specs.declared.deposit.Deposit.{Deposit}
 use Rattle.slotting.proofs.Flows.{flows-refused, flows-sound, amounts-few, amounts-small}
 use Rattle.slotting.proofs.deposit.take_deposit.Statement.{statement}
@@ -35,7 +35,7 @@ module _ (c : tie.After-known-told2) where
   read = sym (c .before .before .before .decode-deposit .ensures) ∙ ap (depositRead body) (c .before .deposit .given .1)
 
   sound : SoundFlows (depositOf body fields)
-  sound = flows-sound (λ _. false) (deposit-sound currencies (λ _. false) body) read
+  sound = flows-sound (λ _. false) (deposit-kind currencies (λ _. false) body .sound) read
 
 decode-deposit-requires : tie.Need-decode-deposit-requires
 decode-deposit-requires c κs = c .before .before .pre .0

@@ -1,5 +1,5 @@
 -- `take_floating`: refused by its decoder, or slotted as one amount due at the reset.
-use Prim.Native.Nat.{ℕ}
+use Prim.Native.Nat.{ℕ, _+_}
 use Rattle.paper.specs.Decode.{decodeFloating}
 use Rattle.record.specs.Answers.{floatingOf, floatingRead}
 use mathlib.Core.Bool.{false}
@@ -9,10 +9,11 @@ use native.Mathlib.Omega.{arith}
 use borrow.Author.Needs.{needs}
 use Rattle.paper.specs.Refusals.{accepted}
 use Rattle.paper.specs.Records.{flows, currencies}
+use Rattle.paper.specs.Flow.{flowOf}
 use Rattle.paper.specs.Sound.{SoundFlows}
-use Rattle.paper.proofs.Sound.{floating-sound}
+use Rattle.paper.proofs.KindTable.{floating-kind}
 use Rattle.record.specs.declared.floating.Floating.{Floating}
-use Rattle.slotting.proofs.Flows.{flows-refused, flows-sound, floating-taken}
+use Rattle.slotting.proofs.Flows.{flows-refused, flows-sound, due-taken}
 use Rattle.slotting.proofs.floating.take_floating.Statement.{statement}
 use Rattle.slotting.proofs.floating.take_floating.Tie as tie
 
@@ -29,7 +30,7 @@ module _ (c : tie.After-known-told2) where
   read = sym (c .before .before .before .decode-floating .ensures) ∙ ap (floatingRead) (c .before .position .given .1)
 
   sound : SoundFlows (floatingOf fields)
-  sound = flows-sound (λ _. false) (floating-sound currencies (λ _. false) body) read
+  sound = flows-sound (λ _. false) (floating-kind currencies (λ _. false) body .sound) read
 
 decode-floating-requires : tie.Need-decode-floating-requires
 decode-floating-requires c κs = c .before .before .pre .0
@@ -65,9 +66,10 @@ same-length-2 : tie.Need-same-length-2
 same-length-2 c = search needs
 
 returns-2 : tie.Need-returns-2
+unfolding flowOf
 returns-2 c =
     let w = c .before .before .before .before .before .before .before .before in
-    floating-taken (fields w .currency) (fields w .side) _ (w .before .before .before .before .before .before .pre .1) (fields w .principal) (fields w .coupon) (read w) (c .before .before .before .slot-due .ensures)
+    due-taken (fields w .currency) (floatingOf (fields w)) (fields w .side) _ (fields w .principal + fields w .coupon) (λ i k. refl) (w .before .before .before .before .before .before .pre .1) (read w) (c .before .before .before .slot-due .ensures)
 
 pub take-floating-spec : {M : Type 1} → statement M
 take-floating-spec =

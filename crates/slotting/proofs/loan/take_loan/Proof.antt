@@ -18,7 +18,7 @@ use borrow.Author.Needs.{needs}
 use Rattle.paper.specs.Refusals.{accepted}
 use Rattle.paper.specs.Records.{flows, currencies}
 use Rattle.paper.specs.Sound.{SoundFlows}
-use Rattle.paper.proofs.Sound.{loan-sound}
+use Rattle.paper.proofs.KindTable.{loan-kind}
 use Rattle.record.specs.declared.loan.Loan.{Loan}
 use Rattle.slotting.proofs.Flows.{flows-refused, flows-sound, amounts-few}
 use Rattle.slotting.proofs.loan.take_loan.Statement.{statement}
@@ -37,7 +37,7 @@ module _ (c : tie.After-known-told2) where
   read = sym (c .before .before .before .decode-loan .ensures) ∙ ap (loanRead body) (c .before .loan .given .1)
 
   sound : SoundFlows (loanOf body fields)
-  sound = flows-sound (λ _. false) (loan-sound currencies (λ _. false) body) read
+  sound = flows-sound (λ _. false) (loan-kind currencies (λ _. false) body .sound) read
 
 decode-loan-requires : tie.Need-decode-loan-requires
 decode-loan-requires c κs = c .before .before .pre .0

@@ -9,8 +9,8 @@ use Rattle.paper.specs.Records.{option, currencies}
 use Rattle.paper.specs.Scales.{billion}
 use Rattle.paper.specs.Decode.{decodeOption}
 use Rattle.paper.specs.Sound.{Sound}
-use Rattle.paper.proofs.Known.{known-of}
-use Rattle.paper.proofs.Sound.{option-sound}
+use Rattle.paper.proofs.Checks.{known-of}
+use Rattle.paper.proofs.KindTable.{option-kind}
 use Rattle.record.specs.declared.option_add_on.OptionAddOn.{OptionAddOn}
 use Rattle.record.specs.Answers.{valuesOf, optionRead}
 use Rattle.posting.specs.Parts.{AtMostℤ}
@@ -33,7 +33,7 @@ module _ (c : tie.After-known-told2) where
 
   small : AtMostℤ billion (valuesOf fields)
   unfolding Sound
-  small = values-small (valuesOf fields) (known-of (option-sound currencies (λ _. false) body) _ read .2)
+  small = values-small (valuesOf fields) (known-of (option-kind currencies (λ _. false) body .sound) _ read .2)
 
 decode-option-requires : tie.Need-decode-option-requires
 decode-option-requires c κs = c .before .before .pre .0

@@ -9,10 +9,11 @@ use native.Mathlib.Omega.{arith}
 use borrow.Author.Needs.{needs}
 use Rattle.paper.specs.Refusals.{accepted}
 use Rattle.paper.specs.Records.{flows, currencies}
+use Rattle.paper.specs.Flow.{flowOf}
 use Rattle.paper.specs.Sound.{SoundFlows}
-use Rattle.paper.proofs.Sound.{single-sound}
+use Rattle.paper.proofs.KindTable.{single-kind}
 use Rattle.record.specs.declared.single.Single.{Single}
-use Rattle.slotting.proofs.Flows.{flows-refused, flows-sound, single-taken}
+use Rattle.slotting.proofs.Flows.{flows-refused, flows-sound, due-taken}
 use Rattle.slotting.proofs.single.take_single.Statement.{statement}
 use Rattle.slotting.proofs.single.take_single.Tie as tie
 
@@ -29,7 +30,7 @@ module _ (c : tie.After-known-told2) where
   read = sym (c .before .before .before .decode-single .ensures) ∙ ap (singleRead) (c .before .flow .given .1)
 
   sound : SoundFlows (singleOf fields)
-  sound = flows-sound (λ _. false) (single-sound currencies (λ _. false) body) read
+  sound = flows-sound (λ _. false) (single-kind currencies (λ _. false) body .sound) read
 
 decode-single-requires : tie.Need-decode-single-requires
 decode-single-requires c κs = c .before .before .pre .0
@@ -58,9 +59,10 @@ same-length-2 : tie.Need-same-length-2
 same-length-2 c = search needs
 
 returns-2 : tie.Need-returns-2
+unfolding flowOf
 returns-2 c =
     let w = c .before .before .before .before .before .before .before in
-    single-taken (fields w .currency) (fields w .side) _ (w .before .before .before .before .before .before .pre .1) (fields w .amount) (read w) (c .before .before .before .slot-due .ensures)
+    due-taken (fields w .currency) (singleOf (fields w)) (fields w .side) _ (fields w .amount) (λ i k. refl) (w .before .before .before .before .before .before .pre .1) (read w) (c .before .before .before .slot-due .ensures)
 
 pub take-single-spec : {M : Type 1} → statement M
 take-single-spec =

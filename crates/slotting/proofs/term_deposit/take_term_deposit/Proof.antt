@@ -19,7 +19,7 @@ use borrow.Author.Needs.{needs}
 use Rattle.paper.specs.Refusals.{accepted}
 use Rattle.paper.specs.Records.{flows, currencies}
 use Rattle.paper.specs.Sound.{SoundFlows}
-use Rattle.paper.proofs.Sound.{term-deposit-sound}
+use Rattle.paper.proofs.KindTable.{term-deposit-kind}
 use Rattle.record.specs.declared.term_deposit.TermDeposit.{TermDeposit}
 use Rattle.slotting.proofs.Flows.{flows-refused, flows-sound, amounts-few, amounts-small}
 use Rattle.slotting.proofs.term_deposit.take_term_deposit.Statement.{statement}
@@ -38,7 +38,7 @@ module _ (c : tie.After-known-told2) where
   read = sym (c .before .before .before .decode-term-deposit .ensures) ∙ ap (termDepositRead body) (c .before .deposit .given .1)
 
   sound : SoundFlows (termDepositOf body fields)
-  sound = flows-sound (λ _. false) (term-deposit-sound currencies (λ _. false) body) read
+  sound = flows-sound (λ _. false) (term-deposit-kind currencies (λ _. false) body .sound) read
 
 decode-term-deposit-requires : tie.Need-decode-term-deposit-requires
 decode-term-deposit-requires c κs = c .before .before .pre .0

@@ -14,8 +14,8 @@ use Rattle.paper.specs.Change.{change, tolerance}
 use Rattle.paper.specs.Verdict.{measure, totalTolerance, verdict, verdictNumber, reportOf}
 use Rattle.paper.specs.Book.{outcome}
 use Rattle.paper.specs.Demand3.{Demand3}
-use Rattle.paper.proofs.Known.{known-of}
-use Rattle.paper.proofs.Walked.{Good, outcome-good}
+use Rattle.paper.proofs.Checks.{known-of}
+use Rattle.paper.proofs.Walk.{Good, outcome-good}
 use Rattle.paper.proofs.ChangeClose.{Rated, exponent-ranged, change-close}
 use Rattle.paper.proofs.MeasureClose.{sum-close, measure-close}
 use Rattle.paper.proofs.VerdictSound.{close-reaches, over-sound, within-sound}

@@ -12,7 +12,7 @@ use Rattle.laws.specs.Sums.{total, totalℤ, some}
 use Rattle.laws.proofs.Tests.{or-false}
 use Rattle.laws.proofs.Totals.{some-more}
 use Rattle.paper.specs.Ladder.{buckets}
-use Rattle.paper.specs.Refusals.{Checked}
+use Rattle.paper.specs.Refusals.{numberOf, Checked, _>>=_}
 use Rattle.paper.specs.Curve.{shockedRate}
 use Rattle.paper.specs.Records.{Record, flows, option, curve, currencyOf, isCurve, bodyLength}
 use Rattle.paper.specs.Flow.{gives}
@@ -20,10 +20,10 @@ use Rattle.paper.specs.Ledger.{ofCurrencyℤ, totals, soFar, curved}
 use Rattle.paper.specs.TurnedDown.{overLimit}
 use Rattle.paper.specs.Fields.{byte}
 use Rattle.paper.specs.Decode.{decode}
-use Rattle.paper.specs.Book.{admitted, recordAt, nextAt, walkFrom, walk, covered, outcome}
-use Rattle.paper.proofs.Known.{Known, known, gone, chain, tested, unless-known, either, placed-known}
+use Rattle.paper.specs.Book.{admitted, recordAt, nextAt, walkFrom, walk, covered, outcome, touchesNothing}
+use Rattle.paper.proofs.Checks.{Checks, Known, Clears, known, gone, forget, chain, tested, unless-known, either, placed-known}
 use Rattle.paper.specs.Sound.{Ranged, Sound, SoundCurve}
-use Rattle.paper.proofs.Sound.{decode-sound}
+use Rattle.paper.proofs.KindTable.{first-field}
 use Rattle.paper.proofs.Limits.{ofCurrencyℤ-more, Limited, limited-none, limited-more}
 
 pub record Good (kept : List Record) : Type 0 where
@@ -88,26 +88,27 @@ good-more {top} {kept} r g p = record {
 -- ---- the walk
 
 module _ (top : ℕ) where
-  pub record-passed : (kept : List Record) (book : List ℕ) (at : ℕ) → Known (Passed top kept) (recordAt top (soFar kept) book at)
-  unfolding recordAt admitted
+  pub record-passed : (kept : List Record) (book : List ℕ) (at : ℕ) → Checks Clears (Passed top kept) (recordAt top (soFar kept) book at)
+  unfolding recordAt admitted touchesNothing numberOf
   record-passed kept book at =
       placed-known at
-      (tested _ _ _ _ (λ e.
-      tested _ _ _ _ (λ f.
-      chain (decode-sound top (curved kept) (byte book at) (take (bodyLength (byte book at)) (drop (suc at) book))) (λ r s.
-      unless-known (Passed top kept) (overLimit (soFar kept) r) _ _ r (λ t. record { sound = s; room = t })))))
+      (tested _ _ _ _ refl (λ e.
+      tested _ _ _ _ refl (λ f.
+      chain (first-field top (curved kept) (byte book at) (take (bodyLength (byte book at)) (drop (suc at) book)) .sound) (λ r s.
+      unless-known _ _ _ _ refl (λ t. record { sound = s; room = t })))))
 
-  pub walk-good : (fuel : ℕ) (book : List ℕ) (at : ℕ) (kept : List Record) → Good kept → Known Good (walkFrom top fuel book at kept)
+  pub walk-good : (fuel : ℕ) (book : List ℕ) (at : ℕ) (kept : List Record) → Good kept → Checks Clears Good (walkFrom top fuel book at kept)
   unfolding walkFrom
   walk-good zero book at kept g = known g
   walk-good (suc fuel) book at kept g =
       either (length book upTo at) (known g)
       (chain (record-passed kept book at) (λ r p. walk-good fuel book (nextAt book at) (kept ++ (r ∷ [])) (good-more r g p)))
 
+  -- a record is refused for one of 1 to 14, and after the last one 15 is left: none of 16 to 18
+  pub records-good : (book : List ℕ) → Checks Clears Good (walk top book >>= covered top)
+  unfolding walk covered touchesNothing numberOf
+  records-good book = chain (walk-good (length book) book 0 [] good-none) (λ kept h. unless-known _ _ _ _ refl (λ t. h))
+
   pub outcome-good : (book : List ℕ) (T reportRoom ledgerRoom : ℕ) → Known Good (outcome top book T reportRoom ledgerRoom)
-  unfolding outcome walk covered
-  outcome-good book T reportRoom ledgerRoom =
-      tested _ _ _ _ (λ e.
-      tested _ _ _ _ (λ f.
-      tested _ _ _ _ (λ g.
-      chain (walk-good (length book) book 0 [] good-none) (λ kept h. unless-known Good _ _ _ kept (λ t. h)))))
+  unfolding outcome
+  outcome-good book T reportRoom ledgerRoom = tested _ _ _ _ tt (λ e. tested _ _ _ _ tt (λ f. tested _ _ _ _ tt (λ g. forget (records-good book))))

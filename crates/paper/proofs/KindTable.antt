@@ -1,0 +1,200 @@
+-- The kinds, one by one: what is known of their records, and their rows in the table. A new kind is one of each, here.
+use Prim.Native.Nat.{ℕ, zero, suc}
+use mathlib.Core.Bool.{Bool, true, false}
+use mathlib.Core.List.{List}
+use mathlib.Core.Path.{_≡_, refl}
+use native.Mathlib.Omega.{arith}
+use borrow.Author.Tests.{eqb-true, eqb-false, ltb-false, ne-eqb}
+use Rattle.laws.specs.Tests.{if_then_else_, _is_}
+use Rattle.paper.specs.declared.Refusal.the-variants.{UnknownKind}
+use Rattle.paper.specs.Ladder.{buckets}
+use Rattle.paper.specs.Refusals.{numberOf, Checked, refused}
+use Rattle.paper.specs.Records.{Record, option, curve, kinds, bodyLength, currencyOf, isCurve, curveKind}
+use Rattle.paper.specs.Flow.{flow, adds, gives}
+use Rattle.paper.specs.TurnedDown.{unknownKind, interestAlone, secondCurve, scheduleOver}
+use Rattle.paper.specs.Decode.{decodeSingle, decodeCoupons, decodeFloating, decodeDeposit, decodeLoan, decodeTermDeposit, decodeOption, decodeCurve, decode}
+use Rattle.paper.specs.Book.{touchesNothing}
+use Rattle.paper.specs.Sound.{SoundFlows, Sound}
+use Rattle.paper.proofs.Checks.{Checks, Clears, known, chain, tested, each-known}
+use Rattle.paper.proofs.Ranges.{side-known, months-known, days-known, period-known, count-known, amount-known, option-known, share-known, category-known, shock-known, amounts-known, rates-known, core-within, none-bad, shocked-ranged}
+use Rattle.paper.proofs.KindLaws.{FlowsOnly, AddOnOnly, CurveOnly, Kind, begins, flows-read, FirstField, flows-kind, add-on-kind, curve-kind, no-kind}
+
+module _ (top : ℕ) (curved : ℕ → Bool) (body : List ℕ) where
+  pub single-kind : Kind top curved FlowsOnly body (decodeSingle top body)
+  unfolding decodeSingle SoundFlows
+  single-kind =
+      begins top body (λ c hc.
+      chain (side-known body 1) (λ s hs.
+      chain (months-known body 2) (λ m hm.
+      chain (days-known body 4) (λ d hd.
+      chain (amount-known body 5) (λ a ha.
+      flows-read hc (hs, (hm, hd), ha))))))
+
+  pub coupons-kind : Kind top curved FlowsOnly body (decodeCoupons top body)
+  unfolding decodeCoupons SoundFlows
+  coupons-kind =
+      begins top body (λ c hc.
+      chain (side-known body 1) (λ s hs.
+      chain (period-known body 2) (λ p hp.
+      chain (count-known body 3 p) (λ n hn.
+      chain (amount-known body 5) (λ a ha.
+      chain (amount-known body 9) (λ b hb.
+      flows-read hc (hs, hp, hn, ha, hb)))))))
+
+  pub floating-kind : Kind top curved FlowsOnly body (decodeFloating top body)
+  unfolding decodeFloating SoundFlows
+  floating-kind =
+      begins top body (λ c hc.
+      chain (side-known body 1) (λ s hs.
+      chain (months-known body 2) (λ m hm.
+      chain (days-known body 4) (λ d hd.
+      chain (amount-known body 5) (λ a ha.
+      chain (amount-known body 9) (λ b hb.
+      flows-read hc (hs, (hm, hd), ha, hb)))))))
+
+  pub deposit-kind : Kind top curved FlowsOnly body (decodeDeposit top body)
+  unfolding decodeDeposit SoundFlows touchesNothing numberOf
+  deposit-kind =
+      begins top body (λ c hc.
+      chain (category-known body 1) (λ g hg.
+      chain (amount-known body 2) (λ a ha.
+      chain (amounts-known body 6) (λ core hs.
+      tested _ _ _ _ refl (λ e.
+      tested _ _ _ _ refl (λ f.
+      flows-read hc (hg, ha, hs, core-within g a core e)))))))
+
+  pub loan-kind : Kind top curved FlowsOnly body (decodeLoan top body)
+  unfolding decodeLoan SoundFlows scheduleOver touchesNothing numberOf
+  loan-kind =
+      begins top body (λ c hc.
+      chain (share-known body 1) (λ s hs.
+      chain (amounts-known body 3) (λ ps hp.
+      chain (amounts-known body 79) (λ xs hx.
+      tested _ _ _ _ refl (λ e.
+      tested _ _ _ _ refl (λ f.
+      flows-read hc (hs, hp, hx, none-bad (interestAlone ps xs) e, ltb-false _ _ f)))))))
+
+  pub term-deposit-kind : Kind top curved FlowsOnly body (decodeTermDeposit top body)
+  unfolding decodeTermDeposit SoundFlows
+  term-deposit-kind =
+      begins top body (λ c hc.
+      chain (share-known body 1) (λ s hs.
+      chain (amounts-known body 3) (λ xs hx.
+      flows-read hc (hs, hx))))
+
+  pub option-kind : Kind top curved AddOnOnly body (decodeOption top body)
+  unfolding decodeOption Sound currencyOf isCurve flow gives
+  option-kind =
+      begins top body (λ c hc.
+      chain (side-known body 1) (λ s hs.
+      chain (each-known (option-known body) 6 2) (λ vs hv.
+      known {a = option c s vs} (record { own = refl; only = record { position = refl; no-flow = λ i k. refl; no-rate = λ i k. refl }; sound = (hc, hs, hv) }))))
+
+  pub rate-kind : Kind top curved CurveOnly body (decodeCurve top curved body)
+  unfolding decodeCurve Sound secondCurve currencyOf isCurve flow adds touchesNothing numberOf
+  rate-kind =
+      begins top body (λ c hc.
+      tested _ _ _ _ refl (λ e.
+      chain (rates-known body 1) (λ rs hr.
+      chain (shock-known body 77) (λ p hp.
+      chain (shock-known body 79) (λ h hh.
+      chain (shock-known body 81) (λ g hg.
+      tested _ _ _ _ refl (λ f.
+      known {a = curve c _} (record {
+        own = refl;
+        only = record { curved = refl; no-flow = λ i k. refl; no-add-on = λ i. refl };
+        sound = (hc, record { fresh = e; base = hr; parallel = hp; short = hh; long = hg; shocked = shocked-ranged _ hr (none-bad _ f) });
+      }))))))))
+
+-- ---- the table, row by row: the length of a body and its decoder; and none of them
+
+pub record Row (top kind bytes : ℕ) (curved : ℕ → Bool) (decodeIt : List ℕ → Checked Record) : Type 0 where
+  pub long : bodyLength kind ≡ bytes
+  pub decodes : (body : List ℕ) → decode top curved kind body ≡ decodeIt body
+
+module _ (top : ℕ) (curved : ℕ → Bool) where
+  pub row-1 : Row top 1 9 curved (decodeSingle top)
+  unfolding bodyLength kinds decode
+  row-1 = record { long = refl; decodes = λ body. refl }
+
+  pub row-2 : Row top 2 13 curved (decodeCoupons top)
+  unfolding bodyLength kinds decode
+  row-2 = record { long = refl; decodes = λ body. refl }
+
+  pub row-3 : Row top 3 13 curved (decodeFloating top)
+  unfolding bodyLength kinds decode
+  row-3 = record { long = refl; decodes = λ body. refl }
+
+  pub row-4 : Row top 4 82 curved (decodeDeposit top)
+  unfolding bodyLength kinds decode
+  row-4 = record { long = refl; decodes = λ body. refl }
+
+  pub row-5 : Row top 5 155 curved (decodeLoan top)
+  unfolding bodyLength kinds decode
+  row-5 = record { long = refl; decodes = λ body. refl }
+
+  pub row-6 : Row top 6 79 curved (decodeTermDeposit top)
+  unfolding bodyLength kinds decode
+  row-6 = record { long = refl; decodes = λ body. refl }
+
+  pub row-7 : Row top 7 26 curved (decodeOption top)
+  unfolding bodyLength kinds decode
+  row-7 = record { long = refl; decodes = λ body. refl }
+
+  pub row-8 : Row top 8 83 curved (decodeCurve top curved)
+  unfolding bodyLength kinds decode
+  row-8 = record { long = refl; decodes = λ body. refl }
+
+abbrev pub NoneOf : ℕ → Type 0
+NoneOf k = ((((((((Unit {0} × (k ≡ 1 → ⊥)) × (k ≡ 2 → ⊥)) × (k ≡ 3 → ⊥)) × (k ≡ 4 → ⊥)) × (k ≡ 5 → ⊥)) × (k ≡ 6 → ⊥)) × (k ≡ 7 → ⊥)) × (k ≡ 8 → ⊥))
+
+none-such : (kind : ℕ) → NoneOf kind → unknownKind kind ≡ true
+unfolding unknownKind bodyLength kinds
+none-such zero f = refl
+none-such (suc zero) f = absurd (f .0 .0 .0 .0 .0 .0 .0 .1 refl)
+none-such (suc (suc zero)) f = absurd (f .0 .0 .0 .0 .0 .0 .1 refl)
+none-such (suc (suc (suc zero))) f = absurd (f .0 .0 .0 .0 .0 .1 refl)
+none-such (suc (suc (suc (suc zero)))) f = absurd (f .0 .0 .0 .0 .1 refl)
+none-such (suc (suc (suc (suc (suc zero))))) f = absurd (f .0 .0 .0 .1 refl)
+none-such (suc (suc (suc (suc (suc (suc zero)))))) f = absurd (f .0 .0 .1 refl)
+none-such (suc (suc (suc (suc (suc (suc (suc zero))))))) f = absurd (f .0 .1 refl)
+none-such (suc (suc (suc (suc (suc (suc (suc (suc zero)))))))) f = absurd (f .1 refl)
+none-such (suc (suc (suc (suc (suc (suc (suc (suc (suc n))))))))) f = refl
+
+pub none-decoded : (top : ℕ) (curved : ℕ → Bool) (kind : ℕ) (body : List ℕ) → NoneOf kind → decode top curved kind body ≡ refused UnknownKind 0
+unfolding decode
+none-decoded top curved kind body f =
+    rw (
+      ne-eqb kind 1 (f .0 .0 .0 .0 .0 .0 .0 .1),
+      ne-eqb kind 2 (f .0 .0 .0 .0 .0 .0 .1),
+      ne-eqb kind 3 (f .0 .0 .0 .0 .0 .1),
+      ne-eqb kind 4 (f .0 .0 .0 .0 .1),
+      ne-eqb kind 5 (f .0 .0 .0 .1),
+      ne-eqb kind 6 (f .0 .0 .1),
+      ne-eqb kind 7 (f .0 .1),
+      ne-eqb kind 8 (f .1),
+    )
+
+-- ---- the first field of every kind is its currency
+
+module _ (top : ℕ) (curved : ℕ → Bool) (kind : ℕ) (body : List ℕ) where
+  at : (n : ℕ) {m rest : Checked Record} → (kind ≡ n → FirstField top curved kind body m) → ((kind ≡ n → ⊥) → FirstField top curved kind body rest)
+      → FirstField top curved kind body (if kind is n then m else rest)
+  at n {m} {rest} here away = by (kind is n) refl
+    where
+      by : (b : Bool) → (kind is n) ≡ b → FirstField top curved kind body (if b then m else rest)
+      by true e = here (eqb-true kind n e)
+      by false e = away (eqb-false kind n e)
+
+  pub first-field : FirstField top curved kind body (decode top curved kind body)
+  unfolding decode curveKind touchesNothing numberOf
+  first-field =
+      at 1 (λ e. flows-kind e refl (single-kind top curved body)) (λ n1.
+      at 2 (λ e. flows-kind e refl (coupons-kind top curved body)) (λ n2.
+      at 3 (λ e. flows-kind e refl (floating-kind top curved body)) (λ n3.
+      at 4 (λ e. flows-kind e refl (deposit-kind top curved body)) (λ n4.
+      at 5 (λ e. flows-kind e refl (loan-kind top curved body)) (λ n5.
+      at 6 (λ e. flows-kind e refl (term-deposit-kind top curved body)) (λ n6.
+      at 7 (λ e. add-on-kind e refl (option-kind top curved body)) (λ n7.
+      at 8 (λ e. curve-kind e refl (rate-kind top curved body)) (λ n8.
+      no-kind refl (none-such kind ((((((((tt, n1), n2), n3), n4), n5), n6), n7), n8))))))))))
