@@ -61,7 +61,7 @@ books =
     ∷ roomed [] 1000000000000 58 1064 0 0
     ∷ ends [] 0 0
     ∷ ends (0 ∷ []) 1 0
-    ∷ ends (asset 1 5 ++ (9 ∷ [])) 1 10
+    ∷ ends (asset 1 5 ++ (255 ∷ [])) 1 10
     ∷ ends (1 ∷ []) 2 0
     ∷ ends (asset 1 5 ++ (5 ∷ replicate 154 255)) 2 10
     ∷ ends (1 ∷ singleBody 9 1 12 0 5) 3 0
