@@ -4,8 +4,8 @@ use mir.Facts.{toZ-ofZ}
 use mir.Syntax.{w64}
 use borrow.Author.Needs.{needs}
 use Rattle.laws.proofs.Widths.{back}
-use Rattle.valuation.proofs.change.in_thousands.Statement.{statement}
-use Rattle.valuation.proofs.change.in_thousands.Tie as tie
+use Rattle.change.proofs.in_thousands.Statement.{statement}
+use Rattle.change.proofs.in_thousands.Tie as tie
 
 rounded-requires : tie.Need-rounded-requires
 rounded-requires c κs = search needs

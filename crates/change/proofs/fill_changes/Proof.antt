@@ -17,12 +17,12 @@ use Rattle.paper.specs.Flow.{scenarios, shocked}
 use Rattle.paper.specs.Ledger.{Totals}
 use Rattle.paper.specs.Change.{value, change}
 use Rattle.arrays.specs.Rooms.{totalsBy}
-use Rattle.valuation.specs.Bounds.{BoundedRow}
-use Rattle.valuation.proofs.Agreement.{SameRow, value-same, row-bounded}
-use Rattle.valuation.proofs.CurrencyParts.{no-add-ons, part-addOn}
-use Rattle.valuation.proofs.Bounds.{difference-most, difference-fits, change-fits}
-use Rattle.valuation.proofs.change.fill_changes.Statement.{statement}
-use Rattle.valuation.proofs.change.fill_changes.Tie as tie
+use Rattle.change.specs.Bounds.{BoundedRow}
+use Rattle.change.proofs.Agreement.{SameRow, value-same, row-bounded}
+use Rattle.change.proofs.CurrencyParts.{no-add-ons, part-addOn}
+use Rattle.change.proofs.Bounds.{difference-most, difference-fits, change-fits}
+use Rattle.change.proofs.fill_changes.Statement.{statement}
+use Rattle.change.proofs.fill_changes.Tie as tie
 
 abbrev Inv-loop : tie.InvT-loop
 Inv-loop cells rates add-ons midpoints table changes₀ base i₀ changes i =

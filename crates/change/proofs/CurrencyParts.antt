@@ -12,7 +12,7 @@ use Rattle.paper.specs.Flow.{scenarios, shocked}
 use Rattle.paper.specs.Ledger.{sectionSize}
 use Rattle.paper.specs.Change.{netSize, tolerance}
 use Rattle.arrays.specs.Rooms.{cellBy, addOnBy, totalsBy}
-use Rattle.valuation.proofs.Agreement.{SameRow, SameCurrency}
+use Rattle.change.proofs.Agreement.{SameRow, SameCurrency}
 
 -- a value needs no add-ons, and a size no rates either
 pub no-add-ons : (ledger addOns rates : List ℤ) (c i : ℕ) → SameRow (totalsBy ledger addOns rates) c i (totalsBy ledger [] rates) c i

@@ -18,10 +18,10 @@ use Rattle.paper.specs.Factor.{factor}
 use Rattle.paper.specs.Ledger.{Totals}
 use Rattle.paper.specs.Change.{value, exponent}
 use Rattle.arrays.specs.Rooms.{cellBy, totalsBy}
-use Rattle.valuation.proofs.CurrencyParts.{part-cell}
-use Rattle.valuation.proofs.Bounds.{weighed, weighed-fits, weighed-sum-fits}
-use Rattle.valuation.proofs.change.value_of.Statement.{statement}
-use Rattle.valuation.proofs.change.value_of.Tie as tie
+use Rattle.change.proofs.CurrencyParts.{part-cell}
+use Rattle.change.proofs.Bounds.{weighed, weighed-fits, weighed-sum-fits}
+use Rattle.change.proofs.value_of.Statement.{statement}
+use Rattle.change.proofs.value_of.Tie as tie
 
 abbrev Inv-loop : tie.InvT-loop
 Inv-loop cells rates scenario midpoints table start sum₀ k₀ sum k =

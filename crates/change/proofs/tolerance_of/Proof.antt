@@ -3,8 +3,8 @@ use borrow.Author.Needs.{needs}
 use borrow.Author.Tests.{eq-eqb, ne-eqb}
 use Rattle.laws.specs.Nearest.{roundedUp}
 use Rattle.paper.specs.Change.{toleranceOf}
-use Rattle.valuation.proofs.change.tolerance_of.Statement.{statement}
-use Rattle.valuation.proofs.change.tolerance_of.Tie as tie
+use Rattle.change.proofs.tolerance_of.Statement.{statement}
+use Rattle.change.proofs.tolerance_of.Tie as tie
 
 mul-result : tie.Need-mul-result
 mul-result c = search needs

@@ -21,8 +21,8 @@ use Rattle.paper.specs.Factor.{lowStart, factor}
 use Rattle.paper.specs.Ledger.{Totals}
 use Rattle.paper.specs.Change.{exponent, value, change, netSize, toleranceOf, tolerance}
 use Rattle.paper.proofs.FactorClose.{factor-at-most}
-use Rattle.valuation.specs.Bounds.{Bounded}
-use Rattle.valuation.specs.Figures.{mostOfAChange}
+use Rattle.change.specs.Bounds.{Bounded}
+use Rattle.change.specs.Figures.{mostOfAChange}
 
 module _ (t : Totals) (c i : ℕ) where
   abbrev pub weighed : ℕ → ℤ

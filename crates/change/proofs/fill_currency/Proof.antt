@@ -11,12 +11,12 @@ use Rattle.paper.specs.Flow.{shocked}
 use Rattle.paper.specs.Ledger.{sectionSize, Totals}
 use Rattle.paper.specs.Change.{change, tolerance}
 use Rattle.arrays.specs.Rooms.{totalsBy}
-use Rattle.valuation.specs.Bounds.{Bounded}
-use Rattle.valuation.proofs.Agreement.{SameCurrency, currency-bounded, change-same, tolerance-same}
-use Rattle.valuation.proofs.CurrencyParts.{net-alone, tolerance-alone, part-of}
+use Rattle.change.specs.Bounds.{Bounded}
+use Rattle.change.proofs.Agreement.{SameCurrency, currency-bounded, change-same, tolerance-same}
+use Rattle.change.proofs.CurrencyParts.{net-alone, tolerance-alone, part-of}
 use borrow.Author.Needs.{needs}
-use Rattle.valuation.proofs.change.fill_currency.Statement.{statement}
-use Rattle.valuation.proofs.change.fill_currency.Tie as tie
+use Rattle.change.proofs.fill_currency.Statement.{statement}
+use Rattle.change.proofs.fill_currency.Tie as tie
 
 -- the currency's own parts
 module _ (s : tie.Start) where

@@ -1,19 +1,15 @@
--- Totals that agree, on a row, on a currency, on all currencies, have the same value, change and tolerance there, and the same report.
-use Prim.Native.Nat.{ℕ, suc, _*_, _/_, _%_, _≤_, _<_}
-use mathlib.Core.List.{List}
-use mathlib.Core.Path.{_≡_, sym, ap, ap₂, _∙_}
+-- Totals that agree, on a row or on a currency, have the same value, change and tolerance there.
+use Prim.Native.Nat.{ℕ, _≤_, _<_}
+use mathlib.Core.Path.{_≡_, ap, ap₂}
 use native.Mathlib.Omega.{arith}
 use lib.IntN.{ℤ, pos, natAbs, _*ℤ_}
-use Rattle.laws.proofs.Sums.{sum-ext, sumℤ-ext, greatest-ext}
-use Rattle.laws.proofs.Lists.{tabulate-ext}
+use Rattle.laws.proofs.Sums.{sum-ext, sumℤ-ext}
 use Rattle.paper.specs.Ladder.{buckets}
-use Rattle.paper.specs.Records.{currencies}
 use Rattle.paper.specs.Flow.{scenarios, shocked}
 use Rattle.paper.specs.Factor.{factor}
 use Rattle.paper.specs.Ledger.{Totals}
 use Rattle.paper.specs.Change.{exponent, value, change, netSize, tolerance}
-use Rattle.paper.specs.Verdict.{changesOf, totalTolerance, reportFrom, reportOf}
-use Rattle.valuation.specs.Bounds.{BoundedRow, Bounded, Nothing}
+use Rattle.change.specs.Bounds.{BoundedRow, Bounded}
 
 -- a row of each
 pub record SameRow (t : Totals) (c i : ℕ) (u : Totals) (d j : ℕ) : Type 0 where
@@ -44,12 +40,6 @@ module _ {t : Totals} {c : ℕ} {u : Totals} {d : ℕ} (s : SameCurrency t c u d
     addOns = λ i p l. rw (s .addOns i p l) at (b .addOns i p l);
   }
 
-  pub currency-nothing : Nothing t c → Nothing u d
-  currency-nothing n = record {
-    flows = λ i k l m. sym (s .rows i l .cells k m) ∙ n .flows i k l m;
-    addOns = λ i p l. sym (s .addOns i p l) ∙ n .addOns i p l;
-  }
-
   module _ (i : ℕ) (p : 1 ≤ i) (l : i ≤ shocked) where
     pub change-same : change t c i ≡ change u d i
     unfolding change
@@ -58,11 +48,3 @@ module _ {t : Totals} {c : ℕ} {u : Totals} {d : ℕ} (s : SameCurrency t c u d
     pub tolerance-same : tolerance t c i ≡ tolerance u d i
     unfolding tolerance
     tolerance-same = rw (net-same (s .rows 0 (omega arith)), net-same (s .rows i (omega arith)))
-
--- all currencies
-pub report-same : (t u : Totals) (T : ℕ) → ((c : ℕ) → 1 ≤ c → c ≤ currencies → SameCurrency t c u c) → reportOf currencies t T ≡ reportOf currencies u T
-unfolding reportOf changesOf totalTolerance
-report-same t u T s =
-    ap₂ (λ (list : List ℤ) (most : ℕ). reportFrom currencies list most T)
-    (tabulate-ext _ _ (shocked * currencies) (λ j l. change-same (s (suc (j / shocked)) (omega arith) (omega arith)) (suc (j % shocked)) (omega arith) (omega arith)))
-    (greatest-ext _ _ shocked (λ i p l. sum-ext _ _ currencies (λ c m. tolerance-same (s (suc c) (omega arith) m) i p l)))

@@ -15,9 +15,9 @@ use Rattle.paper.specs.Flow.{shocked}
 use Rattle.paper.specs.Ledger.{Totals}
 use Rattle.paper.specs.Change.{toleranceOf, tolerance}
 use Rattle.arrays.specs.Rooms.{totalsBy}
-use Rattle.valuation.proofs.Bounds.{tolerance-most}
-use Rattle.valuation.proofs.change.fill_tolerances.Statement.{statement}
-use Rattle.valuation.proofs.change.fill_tolerances.Tie as tie
+use Rattle.change.proofs.Bounds.{tolerance-most}
+use Rattle.change.proofs.fill_tolerances.Statement.{statement}
+use Rattle.change.proofs.fill_tolerances.Tie as tie
 
 abbrev Inv-loop : tie.InvT-loop
 Inv-loop cells tolerances₀ base i₀ tolerances i =

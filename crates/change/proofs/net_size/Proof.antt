@@ -15,9 +15,9 @@ use Rattle.paper.specs.Scales.{billion}
 use Rattle.paper.specs.Ladder.{buckets}
 use Rattle.paper.specs.Change.{netSize}
 use Rattle.arrays.specs.Rooms.{cellBy}
-use Rattle.valuation.proofs.CurrencyParts.{part-cell}
-use Rattle.valuation.proofs.change.net_size.Statement.{statement}
-use Rattle.valuation.proofs.change.net_size.Tie as tie
+use Rattle.change.proofs.CurrencyParts.{part-cell}
+use Rattle.change.proofs.net_size.Statement.{statement}
+use Rattle.change.proofs.net_size.Tie as tie
 
 abbrev Inv-loop : tie.InvT-loop
 Inv-loop cells scenario start size₀ k₀ size k = (k ≤ buckets) × (size ≡ sum (λ j. natAbs (cellBy cells 1 scenario j)) k)
