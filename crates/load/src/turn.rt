@@ -17,14 +17,14 @@ use crate::reader::found_at;
 use arrays::masks::Masks;
 use arrays::masks::has_curve;
 use arrays::masks::marked;
+use fields::Field;
+use fields::currency_at;
 use paper::Fault;
 use paper::Refusal;
 use paper::SCENARIOS;
 use paper::SECTION;
 use paper::SHOCKED;
 use posting::Taken;
-use record::fields::Field;
-use record::fields::currency_at;
 
 // A record is taken, and the walk goes on at the next with these masks; or it is refused; or the book is at its end.
 pub enum Step {

@@ -5,10 +5,10 @@ ghost use lib.ListN.{length, getD};
 ghost use Rattle.laws.specs.Sums.{sumOf};
 ghost use Rattle.paper.specs.Scales.{billion};
 ghost use Rattle.paper.specs.Ladder.{buckets};
-ghost use Rattle.record.specs.Answers.{amountsFrom};
+ghost use Rattle.fields.specs.Answers.{amountsFrom};
 ghost use Rattle.posting.specs.Parts.{AtMost};
+use fields::bytes::four_at;
 use paper::BUCKETS;
-use record::bytes::four_at;
 
 // The amount of bucket k + 1.
 pub fn amount_of(body: &[u8], from: usize, k: usize) -> u64

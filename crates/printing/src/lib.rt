@@ -10,10 +10,10 @@ ghost use Rattle.paper.specs.Program.{capitalIn, textOf, printed};
 use book::assess::Assessed;
 use book::assess::assess;
 use book::face::refusal_number;
+use fields::bytes::four_at;
 use paper::CELLS;
 use paper::FIGURES;
 use paper::LONGEST_BOOK;
-use record::bytes::four_at;
 use text::refusal::write_refusal;
 use text::report::write_report;
 

@@ -12,7 +12,7 @@ use Rattle.paper.specs.Ladder.{buckets, midpoint}
 use Rattle.paper.specs.Behaviour.{weighedCore}
 use Rattle.paper.specs.Fields.{four}
 use Rattle.paper.proofs.Midpoints.{midpoint-most}
-use Rattle.record.specs.Answers.{amountsFrom}
+use Rattle.fields.specs.Answers.{amountsFrom}
 
 -- another category has no cap
 pub uncapped : (first second third category : ℕ) → (category ≡ 1 → ⊥) → (category ≡ 2 → ⊥) → (category ≡ 3 → ⊥)

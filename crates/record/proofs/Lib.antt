@@ -1,9 +1,5 @@
--- a field, and fields in a row, by the paper's definitions
-pub mod FieldLaws
--- an answer, and a body decoded field by field
-pub mod Reading
--- the loops, and what their answers tell
-pub mod AmountLaws
-pub mod RateLaws
+-- a body decoded field by field, and the rules after its fields
+pub mod BodyLaws
+-- the loops over a deposit's and a loan's buckets
 pub mod DepositLaws
 pub mod LoanLaws

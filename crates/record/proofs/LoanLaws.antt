@@ -15,7 +15,7 @@ use Rattle.paper.specs.Ladder.{buckets}
 use Rattle.paper.specs.Behaviour.{scheduledAt}
 use Rattle.paper.specs.TurnedDown.{interestAlone}
 use Rattle.paper.specs.Fields.{four}
-use Rattle.record.specs.Answers.{amountsFrom}
+use Rattle.fields.specs.Answers.{amountsFrom}
 
 module _ (body : List ℕ) where
   abbrev alone : ℕ → Bool

@@ -3,11 +3,11 @@ ghost use mathlib.Core.Path.{_≡_};
 ghost use Rattle.paper.specs.Records.{currencies};
 ghost use Rattle.paper.specs.Decode.{decodeCoupons};
 ghost use Rattle.record.specs.Answers.{Body, couponsRead};
-use crate::fields::Field;
-use crate::fields::amount_at;
-use crate::fields::count_at;
-use crate::fields::period_at;
-use crate::fields::side_at;
+use fields::Field;
+use fields::amount_at;
+use fields::count_at;
+use fields::period_at;
+use fields::side_at;
 use paper::Fault;
 
 pub struct Coupons {

@@ -5,10 +5,10 @@ ghost use Rattle.paper.specs.Records.{currencies};
 ghost use Rattle.paper.specs.Fields.{sideAt};
 ghost use Rattle.paper.specs.Decode.{decodeOption};
 ghost use Rattle.record.specs.Answers.{Body, optionRead};
-use crate::fields::Field;
-use crate::fields::SignedField;
-use crate::fields::option_at;
-use crate::fields::side_at;
+use fields::Field;
+use fields::SignedField;
+use fields::option_at;
+use fields::side_at;
 use paper::Fault;
 
 pub struct OptionAddOn {

@@ -3,10 +3,10 @@ ghost use mathlib.Core.Path.{_≡_};
 ghost use Rattle.paper.specs.Records.{currencies};
 ghost use Rattle.paper.specs.Decode.{decodeTermDeposit};
 ghost use Rattle.record.specs.Answers.{Body, termDepositRead};
-use crate::amounts::Amounts;
-use crate::amounts::amounts_at;
-use crate::fields::Field;
-use crate::fields::share_at;
+use fields::Field;
+use fields::amounts::Amounts;
+use fields::amounts::amounts_at;
+use fields::share_at;
 use paper::Fault;
 
 pub struct TermDeposit {

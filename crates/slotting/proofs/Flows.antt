@@ -24,7 +24,7 @@ use Rattle.paper.specs.Sound.{Amounts, SoundFlows, Sound}
 use Rattle.paper.proofs.Checks.{Checks, Clears, known-of}
 use Rattle.paper.proofs.Magnitudes.{size-due}
 use Rattle.arrays.specs.Slots.{plus, plusℤ, withFlows, withSizes, withAddOns, withOptionSizes, optionMagnitude, roomFor, onlyIf}
-use Rattle.record.specs.Answers.{amountsFrom}
+use Rattle.fields.specs.Answers.{amountsFrom}
 use Rattle.posting.specs.declared.Taken.{Taken}
 use Rattle.posting.specs.declared.Taken.the-variants.{Refused}
 use Rattle.posting.specs.Parts.{AtMost, FlowParts, answerOf, Admitted, Entered, column}

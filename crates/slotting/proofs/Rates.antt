@@ -24,8 +24,8 @@ use Rattle.paper.specs.Decode.{decodeCurve}
 use Rattle.paper.proofs.Checks.{Known, known, gone, chain, tested, through}
 use Rattle.arrays.specs.Slots.{withRates}
 use Rattle.curve.specs.Shocked.{shockedSection}
-use Rattle.record.specs.Answers.{rateOf, ratesFrom, goodRates, ratesSet}
-use Rattle.record.proofs.FieldLaws.{each-accepts}
+use Rattle.fields.specs.Answers.{rateOf, ratesFrom, goodRates, ratesSet}
+use Rattle.fields.proofs.FieldLaws.{each-accepts}
 use Rattle.posting.specs.declared.Taken.the-variants.{Done, Refused}
 use Rattle.slotting.specs.Answers.{CurveTaken}
 use Rattle.slotting.specs.Parts.{RateParts}

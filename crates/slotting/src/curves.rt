@@ -5,11 +5,11 @@ ghost use Rattle.record.specs.Answers.{Body};
 ghost use Rattle.slotting.specs.Answers.{CurveTaken};
 ghost use Rattle.slotting.specs.Parts.{RateParts};
 use curve::fill_section;
+use fields::rates::rates_at;
 use paper::BUCKETS;
 use posting::Taken;
 use record::curves::DecodedCurve;
 use record::curves::decode_curve;
-use record::rates::rates_at;
 
 pub fn take_curve(currency: u32, curved: bool, body: &[u8], rates: &mut [i64]) -> Taken
     requires { ⌜ Body 83 currency (now body) ⌝ }

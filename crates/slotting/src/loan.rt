@@ -13,7 +13,8 @@ ghost use Rattle.paper.specs.Behaviour.{wholeRate, prepaymentRate, paid, prepai
 ghost use Rattle.paper.specs.Flow.{scenarios};
 ghost use Rattle.paper.specs.Ledger.{sectionSize};
 ghost use Rattle.paper.specs.Decode.{decodeLoan};
-ghost use Rattle.record.specs.Answers.{Body, amountsFrom};
+ghost use Rattle.fields.specs.Answers.{amountsFrom};
+ghost use Rattle.record.specs.Answers.{Body};
 ghost use Rattle.posting.specs.Parts.{FlowParts};
 ghost use Rattle.slotting.specs.Answers.{FlowsTaken};
 ghost use Rattle.slotting.specs.Parts.{SoundSchedule};

@@ -15,7 +15,7 @@ use Rattle.laws.proofs.Filling.{Rows, rows-none, rows-next, rows-all}
 use Rattle.paper.specs.Records.{currencies}
 use Rattle.paper.specs.Flow.{shocked}
 use Rattle.paper.specs.Verdict.{changesOf}
-use Rattle.valuation.specs.Figures.{withFigures}
+use Rattle.change.specs.Figures.{withFigures}
 
 module _ (f : ℕ → ℕ → ℤ) where
   -- by a currency less 1 and a scenario less 1

@@ -17,7 +17,8 @@ use Rattle.laws.proofs.Lists.{tabulate-length, tabulate-at, tabulate-past}
 use Rattle.paper.specs.Records.{currencies}
 use Rattle.paper.specs.Flow.{scenarios, shocked}
 use Rattle.paper.specs.Verdict.{listed, scenarioSum, measure, worst, changesOf}
-use Rattle.valuation.specs.Figures.{mostOfAChange, mostOfASum, Figures}
+use Rattle.change.specs.Figures.{mostOfAChange}
+use Rattle.valuation.specs.Figures.{mostOfASum, Figures}
 
 -- currency c + 1, as a loop from 0 has it
 pub listed-at : (list : List ℤ) (c i : ℕ) → listed list (suc c) i ≡ getD list (shocked * c + (i - 1)) (pos 0)

@@ -18,8 +18,10 @@ use Rattle.arrays.specs.Masks.{MaskOf, curvedBy}
 use Rattle.arrays.specs.Arrays.{arraysOf}
 use Rattle.arrays.specs.Rooms.{totalsBy}
 use Rattle.arrays.proofs.More.{cell-is, addOn-is}
-use Rattle.valuation.specs.Bounds.{Bounded, Nothing, Bounds}
-use Rattle.valuation.proofs.Agreement.{SameCurrency, currency-bounded, currency-nothing, report-same}
+use Rattle.change.specs.Bounds.{Bounded}
+use Rattle.change.proofs.Agreement.{SameCurrency, currency-bounded}
+use Rattle.valuation.specs.Bounds.{Nothing, Bounds}
+use Rattle.valuation.proofs.SameReport.{currency-nothing, report-same}
 
 module _ (kept : List Record) where
   abbrev pub arrayTotals : Totals

@@ -1,9 +1,3 @@
--- totals that agree have the same values, changes and reports
-pub mod Agreement
--- a currency's own parts of the arrays
-pub mod CurrencyParts
--- what a row's weighed flows, a change and a tolerance come to at most
-pub mod Bounds
 -- lists of figures: what they and their sums come to at most
 pub mod Figures
 -- figures filled currency by currency
@@ -12,5 +6,7 @@ pub mod Currencies
 pub mod Progress
 -- where the report's parts stand in its room
 pub mod ReportParts
+-- totals that agree have the same report
+pub mod SameReport
 -- the arrays of an accepted book keep the bounds, and report what its records come to
 pub mod KeptRecords

@@ -12,7 +12,6 @@ use arrays::masks::has_curve;
 use paper::CHANGES;
 use paper::CURRENCIES;
 
-mod change;
 mod measure;
 mod report;
 mod verdict;

@@ -12,7 +12,7 @@ use Rattle.paper.specs.Sound.{Between}
 use Rattle.paper.proofs.Checks.{known-of}
 use Rattle.paper.proofs.Ranges.{currency-known}
 use Rattle.arrays.specs.Masks.{markedBy}
-use Rattle.record.proofs.Reading.{value, bad}
+use Rattle.fields.proofs.Reading.{value, bad}
 use Rattle.load.specs.Step.{faultAt}
 use Rattle.load.proofs.TurnLaws.{known-long, curves-hold, stepped-bad, stepped-refused, stepped-done}
 use Rattle.load.proofs.turn.take_record.Statement.{statement}

@@ -2,7 +2,7 @@ use mathlib.Core.Path.{_≡_, sym, _∙_}
 use lib.ListN.{getD}
 use borrow.Author.Needs.{needs}
 use Rattle.laws.proofs.Lists.{tabulate-at}
-use Rattle.record.specs.Answers.{amountsFrom}
+use Rattle.fields.specs.Answers.{amountsFrom}
 use Rattle.posting.proofs.amounts.amount_of.Statement.{statement}
 use Rattle.posting.proofs.amounts.amount_of.Tie as tie
 

@@ -8,7 +8,7 @@ use Rattle.laws.specs.Sums.{sum}
 use Rattle.laws.proofs.Lists.{tabulate-length}
 use Rattle.laws.proofs.Sums.{sum-more}
 use Rattle.laws.proofs.Totals.{sum-getD}
-use Rattle.record.specs.Answers.{amountsFrom}
+use Rattle.fields.specs.Answers.{amountsFrom}
 use Rattle.posting.proofs.amounts.sum_from.Statement.{statement}
 use Rattle.posting.proofs.amounts.sum_from.Tie as tie
 

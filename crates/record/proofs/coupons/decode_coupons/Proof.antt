@@ -4,8 +4,9 @@ use borrow.Author.Needs.{needs}
 use Rattle.paper.specs.Records.{currencies}
 use Rattle.paper.specs.Fields.{sideAt, periodAt, countAt, amountAt}
 use Rattle.paper.specs.Decode.{decodeCoupons}
+use Rattle.fields.proofs.Reading.{value, bad}
 use Rattle.record.specs.Answers.{couponsRead}
-use Rattle.record.proofs.Reading.{value, bad, Left, begin, out, on, then}
+use Rattle.record.proofs.BodyLaws.{Left, begin, out, on, then}
 use Rattle.record.proofs.coupons.decode_coupons.Statement.{statement}
 use Rattle.record.proofs.coupons.decode_coupons.Tie as tie
 

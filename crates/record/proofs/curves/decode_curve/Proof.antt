@@ -17,9 +17,11 @@ use Rattle.paper.proofs.Checks.{Anything, known-of, field-known}
 use Rattle.paper.proofs.Ranges.{shock-range}
 use Rattle.curve.specs.declared.Shocks.{Shocks}
 use Rattle.curve.specs.Shocked.{curveOf}
-use Rattle.record.specs.Answers.{ratesFrom, curveRead}
-use Rattle.record.proofs.Reading.{value, bad, rates-bad, refusing-record, passing, refusing-at, passing-all, rule, Left, begin, out, on, then}
-use Rattle.record.proofs.RateLaws.{Rated, rates-all}
+use Rattle.fields.specs.Answers.{ratesFrom}
+use Rattle.fields.proofs.Reading.{value, bad, rates-bad}
+use Rattle.fields.proofs.RateLaws.{Rated, rates-all}
+use Rattle.record.specs.Answers.{curveRead}
+use Rattle.record.proofs.BodyLaws.{refusing-record, passing, refusing-at, passing-all, rule, Left, begin, out, on, then}
 use Rattle.record.proofs.curves.decode_curve.Statement.{statement}
 use Rattle.record.proofs.curves.decode_curve.Tie as tie
 

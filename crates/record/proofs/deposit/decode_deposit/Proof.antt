@@ -12,9 +12,11 @@ use Rattle.paper.specs.Behaviour.{coreCap, averageCap}
 use Rattle.paper.specs.TurnedDown.{coreAboveCap, coreTooLong}
 use Rattle.paper.specs.Fields.{categoryAt, amountAt, each}
 use Rattle.paper.specs.Decode.{decodeDeposit}
-use Rattle.record.specs.Answers.{amountsFrom, depositRead}
-use Rattle.record.proofs.Reading.{value, bad, amounts-bad, refusing-record, passing, rule, Left, begin, out, on, then}
-use Rattle.record.proofs.AmountLaws.{Amounting, amounts-summed}
+use Rattle.fields.specs.Answers.{amountsFrom}
+use Rattle.fields.proofs.Reading.{value, bad, amounts-bad}
+use Rattle.fields.proofs.AmountLaws.{Amounting, amounts-summed}
+use Rattle.record.specs.Answers.{depositRead}
+use Rattle.record.proofs.BodyLaws.{refusing-record, passing, rule, Left, begin, out, on, then}
 use Rattle.record.proofs.deposit.decode_deposit.Statement.{statement}
 use Rattle.record.proofs.deposit.decode_deposit.Tie as tie
 

@@ -4,8 +4,9 @@ use borrow.Author.Needs.{needs}
 use Rattle.paper.specs.Records.{currencies}
 use Rattle.paper.specs.Fields.{sideAt, monthsAt, daysAt, amountAt}
 use Rattle.paper.specs.Decode.{decodeFloating}
+use Rattle.fields.proofs.Reading.{value, bad}
 use Rattle.record.specs.Answers.{floatingRead}
-use Rattle.record.proofs.Reading.{value, bad, Left, begin, out, on, then}
+use Rattle.record.proofs.BodyLaws.{Left, begin, out, on, then}
 use Rattle.record.proofs.floating.decode_floating.Statement.{statement}
 use Rattle.record.proofs.floating.decode_floating.Tie as tie
 

@@ -15,9 +15,11 @@ use Rattle.paper.specs.Records.{currencies}
 use Rattle.paper.specs.TurnedDown.{interestAlone, scheduleOver}
 use Rattle.paper.specs.Fields.{shareAt, amountAt, each}
 use Rattle.paper.specs.Decode.{decodeLoan}
-use Rattle.record.specs.Answers.{amountsFrom, loanRead}
-use Rattle.record.proofs.Reading.{value, bad, amounts-bad, refusing-record, passing, refusing-at, passing-all, rule, Left, begin, out, on, then}
-use Rattle.record.proofs.AmountLaws.{Amounting, amounts-summed}
+use Rattle.fields.specs.Answers.{amountsFrom}
+use Rattle.fields.proofs.Reading.{value, bad, amounts-bad}
+use Rattle.fields.proofs.AmountLaws.{Amounting, amounts-summed}
+use Rattle.record.specs.Answers.{loanRead}
+use Rattle.record.proofs.BodyLaws.{refusing-record, passing, refusing-at, passing-all, rule, Left, begin, out, on, then}
 use Rattle.record.proofs.loan.decode_loan.Statement.{statement}
 use Rattle.record.proofs.loan.decode_loan.Tie as tie
 

@@ -4,8 +4,9 @@ use borrow.Author.Needs.{needs}
 use Rattle.paper.specs.Records.{currencies}
 use Rattle.paper.specs.Fields.{sideAt}
 use Rattle.paper.specs.Decode.{decodeOption}
+use Rattle.fields.proofs.Reading.{value, bad}
 use Rattle.record.specs.Answers.{optionRead}
-use Rattle.record.proofs.Reading.{value, bad, Left, begin, out}
+use Rattle.record.proofs.BodyLaws.{Left, begin, out}
 use Rattle.record.proofs.option_add_on.decode_option.Statement.{statement}
 use Rattle.record.proofs.option_add_on.decode_option.Tie as tie
 

@@ -7,9 +7,10 @@ use Rattle.paper.specs.Refusals.{_>>=_}
 use Rattle.paper.specs.Records.{currencies}
 use Rattle.paper.specs.Fields.{sideAt, optionAt, each}
 use Rattle.paper.specs.Decode.{decodeOption}
+use Rattle.fields.proofs.FieldLaws.{each-more}
+use Rattle.fields.proofs.Reading.{signed-value, signed-bad}
 use Rattle.record.specs.Answers.{optionRead}
-use Rattle.record.proofs.FieldLaws.{each-more}
-use Rattle.record.proofs.Reading.{signed-value, signed-bad, Left, begin, out, on, then}
+use Rattle.record.proofs.BodyLaws.{Left, begin, out, on, then}
 use Rattle.record.proofs.option_add_on.decode_values.Statement.{statement}
 use Rattle.record.proofs.option_add_on.decode_values.Tie as tie
 

@@ -4,8 +4,9 @@ use borrow.Author.Needs.{needs}
 use Rattle.paper.specs.Records.{currencies}
 use Rattle.paper.specs.Fields.{sideAt, monthsAt, daysAt, amountAt}
 use Rattle.paper.specs.Decode.{decodeSingle}
+use Rattle.fields.proofs.Reading.{value, bad}
 use Rattle.record.specs.Answers.{singleRead}
-use Rattle.record.proofs.Reading.{value, bad, Left, begin, out, on, then}
+use Rattle.record.proofs.BodyLaws.{Left, begin, out, on, then}
 use Rattle.record.proofs.single.decode_single.Statement.{statement}
 use Rattle.record.proofs.single.decode_single.Tie as tie
 

@@ -5,9 +5,10 @@ use Rattle.paper.specs.Ladder.{buckets}
 use Rattle.paper.specs.Records.{currencies}
 use Rattle.paper.specs.Fields.{shareAt, amountAt, each}
 use Rattle.paper.specs.Decode.{decodeTermDeposit}
+use Rattle.fields.proofs.Reading.{value, bad, amounts-bad}
+use Rattle.fields.proofs.AmountLaws.{amounts-summed}
 use Rattle.record.specs.Answers.{termDepositRead}
-use Rattle.record.proofs.Reading.{value, bad, amounts-bad, Left, begin, out, on, then}
-use Rattle.record.proofs.AmountLaws.{amounts-summed}
+use Rattle.record.proofs.BodyLaws.{Left, begin, out, on, then}
 use Rattle.record.proofs.term_deposit.decode_term_deposit.Statement.{statement}
 use Rattle.record.proofs.term_deposit.decode_term_deposit.Tie as tie
 

@@ -15,7 +15,8 @@ use Rattle.paper.proofs.Checks.{known-of}
 use Rattle.paper.proofs.KindTable.{rate-kind}
 use Rattle.curve.specs.Shocked.{curveOf, shockedSection}
 use Rattle.record.specs.declared.curves.Curve.{Curve}
-use Rattle.record.specs.Answers.{ratesFrom, goodRates, curveRead}
+use Rattle.fields.specs.Answers.{ratesFrom, goodRates}
+use Rattle.record.specs.Answers.{curveRead}
 use Rattle.slotting.proofs.Rates.{rates-good, base-is, curve-taken, curve-refused}
 use Rattle.slotting.proofs.curves.take_curve.Statement.{statement}
 use Rattle.slotting.proofs.curves.take_curve.Tie as tie

@@ -4,7 +4,8 @@ use Rattle.paper.specs.Ladder.{buckets}
 use Rattle.paper.specs.Behaviour.{depositFlow}
 use Rattle.paper.specs.Decode.{decodeDeposit}
 use Rattle.paper.proofs.Magnitudes.{size-deposit}
-use Rattle.record.specs.Answers.{amountsFrom, depositOf, depositRead}
+use Rattle.fields.specs.Answers.{amountsFrom}
+use Rattle.record.specs.Answers.{depositOf, depositRead}
 use Rattle.posting.specs.Parts.{trillion}
 use Rattle.slotting.proofs.Rows.{row-long, row-small, row-taken}
 use Rattle.slotting.proofs.DepositRows.{core-small, core-flow}

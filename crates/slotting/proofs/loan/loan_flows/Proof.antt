@@ -15,7 +15,7 @@ use Rattle.paper.specs.Behaviour.{behaviouralRate, prepaymentMultipliers, prepa
 use Rattle.paper.specs.Flow.{scenarios}
 use Rattle.paper.specs.Ledger.{sectionSize}
 use Rattle.paper.proofs.Deposits.{rate-at-most}
-use Rattle.record.specs.Answers.{amountsFrom}
+use Rattle.fields.specs.Answers.{amountsFrom}
 use Rattle.slotting.proofs.Rows.{multiplier-small}
 use Rattle.slotting.proofs.loan.loan_flows.Statement.{statement}
 use Rattle.slotting.proofs.loan.loan_flows.Tie as tie

@@ -6,7 +6,8 @@ use Rattle.paper.specs.Behaviour.{prepaymentRate, loanFlow}
 use Rattle.paper.specs.Flow.{scenarios}
 use Rattle.paper.specs.Ledger.{sectionSize}
 use Rattle.paper.specs.Decode.{decodeLoan}
-use Rattle.record.specs.Answers.{amountsFrom, loanOf, loanRead}
+use Rattle.fields.specs.Answers.{amountsFrom}
+use Rattle.record.specs.Answers.{loanOf, loanRead}
 use Rattle.posting.specs.Parts.{trillion}
 use Rattle.slotting.proofs.Rows.{byPlace, row-at, row-long, row-small, rows-taken}
 use Rattle.slotting.proofs.Prepayment.{loan-flow, loan-size, loan-small, schedule-of}

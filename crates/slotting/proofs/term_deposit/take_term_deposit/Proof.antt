@@ -5,7 +5,8 @@ use Rattle.paper.specs.Behaviour.{withdrawalRate, termDepositFlow}
 use Rattle.paper.specs.Ledger.{sectionSize}
 use Rattle.paper.specs.Decode.{decodeTermDeposit}
 use Rattle.paper.proofs.Magnitudes.{size-term-deposit}
-use Rattle.record.specs.Answers.{amountsFrom, termDepositOf, termDepositRead}
+use Rattle.fields.specs.Answers.{amountsFrom}
+use Rattle.record.specs.Answers.{termDepositOf, termDepositRead}
 use Rattle.posting.specs.Parts.{trillion}
 use Rattle.posting.proofs.Loops.{replicate-all}
 use Rattle.posting.proofs.Limit.{same-size}

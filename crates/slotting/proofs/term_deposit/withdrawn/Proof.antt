@@ -9,7 +9,7 @@ use Rattle.laws.specs.Sums.{sum}
 use Rattle.laws.proofs.Lists.{tabulate-length}
 use Rattle.laws.proofs.Sums.{sum-more}
 use Rattle.paper.specs.Behaviour.{moved}
-use Rattle.record.specs.Answers.{amountsFrom}
+use Rattle.fields.specs.Answers.{amountsFrom}
 use Rattle.laws.proofs.Filling.{Filled, filled-none, filled-next}
 use Rattle.slotting.proofs.DepositRows.{withdrawn-row}
 use Rattle.slotting.proofs.term_deposit.withdrawn.Statement.{statement}

@@ -11,7 +11,7 @@ use Rattle.paper.specs.Ladder.{buckets}
 use Rattle.paper.specs.Behaviour.{behaviouralRate, withdrawalMultipliers, withdrawalRate, termDepositFlow}
 use Rattle.paper.specs.Ledger.{sectionSize}
 use Rattle.paper.proofs.Deposits.{rate-at-most}
-use Rattle.record.specs.Answers.{amountsFrom}
+use Rattle.fields.specs.Answers.{amountsFrom}
 use Rattle.slotting.proofs.Rows.{multiplier-small}
 use Rattle.slotting.proofs.term_deposit.withdrawn_flows.Statement.{statement}
 use Rattle.slotting.proofs.term_deposit.withdrawn_flows.Tie as tie
