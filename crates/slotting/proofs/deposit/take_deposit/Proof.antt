@@ -6,7 +6,8 @@ use Rattle.paper.specs.Decode.{decodeDeposit}
 use Rattle.paper.proofs.Magnitudes.{size-deposit}
 use Rattle.record.specs.Answers.{amountsFrom, depositOf, depositRead}
 use Rattle.posting.specs.Parts.{trillion}
-use Rattle.slotting.proofs.Rows.{row-long, row-small, row-taken}
+use Rattle.posting.proofs.Loops.{row-long, row-small}
+use Rattle.slotting.proofs.Rows.{row-taken}
 use Rattle.slotting.proofs.DepositRows.{core-small, core-flow}
 use mathlib.Core.Bool.{false}
 use mathlib.Core.List.{List}
