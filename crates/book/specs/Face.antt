@@ -3,10 +3,12 @@ use Prim.Native.Nat.{ℕ}
 use mathlib.Core.List.{List}
 use mathlib.Core.Path.{_≡_}
 use lib.IntN.{ℤ}
-use lib.ListN.{set}
+use lib.ListN.{length, set}
+use denote.Ref.{now}
 use Rattle.paper.specs.Refusals.{Checked}
 use Rattle.paper.specs.Records.{Record, currencies}
-use Rattle.paper.specs.Book.{reportAfter, ledgerAfter}
+use Rattle.paper.specs.Book.{outcome, reportAfter, ledgerAfter}
+use Rattle.arrays.specs.Lent.{Lent}
 use Rattle.book.specs.Assessed.{Answer, reported, turnedDown, answerOf}
 
 -- 0 stands for a report
@@ -27,3 +29,9 @@ pub record Faced (o : Checked (List Record)) (T : ℕ) (report ledger : List ℤ
   pub place-is : place' ≡ withPlace (placeIn (answerOf o)) place
   pub report-is : report' ≡ reportAfter currencies o T report
   pub ledger-is : ledger' ≡ ledgerAfter currencies o ledger
+
+-- by what the face is lent
+abbrev pub Faces : List ℕ → ℕ → Lent ℤ → Lent ℤ → Lent ℕ → ℕ → Type 0
+Faces book T report ledger place number =
+    Faced (outcome currencies book T (length (now (report .entry))) (length (now (ledger .entry)))) T (now (report .entry)) (now (ledger .entry)) (now (place .entry))
+    number (now (report .exit)) (now (ledger .exit)) (now (place .exit))

@@ -1,10 +1,7 @@
 // The face of `assess` for callers in other languages: numbers and slices only.
 ghost use mathlib.Core.Path.{_≡_};
-ghost use lib.ListN.{length};
-ghost use Rattle.paper.specs.Records.{currencies};
-ghost use Rattle.paper.specs.Book.{outcome};
 ghost use Rattle.paper.specs.Refusals.{numberOf};
-ghost use Rattle.book.specs.Face.{Faced, withPlace};
+ghost use Rattle.book.specs.Face.{Faces, withPlace};
 use crate::assess::Assessed;
 use crate::assess::assess;
 use paper::Refusal;
@@ -52,7 +49,7 @@ pub extern "C" fn vorlegan_assess(
     ledger: &mut [i64],
     place: &mut [u64],
 ) -> u32
-    ensures { λ r. ⌜ Faced (outcome currencies (now (book .entry)) tier1 (length (now (report .entry))) (length (now (ledger .entry)))) tier1 (now (report .entry)) (now (ledger .entry)) (now (place .entry)) r (now (report .exit)) (now (ledger .exit)) (now (place .exit)) ⌝ }
+    ensures { λ r. ⌜ Faces (now (book .entry)) tier1 report ledger place r ⌝ }
 {
     match assess(book, tier1, report, ledger) {
         Assessed::Reported(_) => {

@@ -4,7 +4,7 @@ use mathlib.Core.Bool.{Bool, true, false, not}
 use mathlib.Core.List.{List}
 use mathlib.Core.Path.{_≡_, sym, ap, ap₂, _∙_}
 use native.Mathlib.Omega.{arith}
-use lib.IntN.{ℤ, pos}
+use lib.IntN.{ℤ, pos, _+ℤ_}
 use lib.ListN.{length, getD, replicate, getD-replicate}
 use borrow.Author.Tests.{lt-ltb, le-ltb, ltb-false, not-true}
 use Rattle.laws.specs.Tests.{_below_}
@@ -13,6 +13,7 @@ use Rattle.laws.proofs.Tests.{all-at, all-of, all-not, all-ext}
 use Rattle.paper.specs.Scales.{billion}
 use Rattle.paper.specs.Flow.{scenarios, sided}
 use Rattle.arrays.specs.Slots.{plus, plusℤ, roomFor, onlyIf}
+use Rattle.posting.specs.declared.Taken.{Taken}
 use Rattle.posting.specs.Parts.{answerOf, Admitted, Entered}
 
 module _ (sums : List ℕ) (n : ℕ) where
@@ -69,6 +70,18 @@ pub entered : (amounts : ℕ → ℕ) (side : ℕ) (own : ℕ → ℕ) (b : Bool
 entered amounts side own b {sizes = sizes} long sized test t e =
     let room : roomFor own sizes scenarios ≡ b = room-is own scenarios long sized test ∙ t in
     record { answered = sym (ap answerOf room); cells = e ∙ sym (rw room); sums = sums-are own scenarios long sized test }
+
+-- flows and magnitudes that are the same number by number
+pub entered-ext : (side : ℕ) (amounts amounts' more more' : ℕ → ℕ) {section section' : List ℤ} {sizes sizes' : List ℕ} {answer : Taken}
+    → ((j : ℕ) → amounts j ≡ amounts' j) → ((i : ℕ) → more i ≡ more' i)
+    → Entered amounts side more section sizes answer section' sizes' → Entered amounts' side more' section sizes answer section' sizes'
+entered-ext side amounts amounts' more more' {section = section} {sizes = sizes} flows-are sizes-are h =
+    let same : roomFor more sizes scenarios ≡ roomFor more' sizes scenarios = room-ext sizes scenarios more more' (λ i _. sizes-are i) in
+    record {
+      answered = h .answered ∙ ap answerOf same;
+      cells = h .cells ∙ ap₂ (λ (b : Bool) (l : List ℤ). onlyIf b l section) same (joined-ext _+ℤ_ (pos 0) section _ _ (λ j _. ap (λ (n : ℕ). sided side (pos n)) (flows-are j)));
+      sums = h .sums ∙ ap₂ (λ (b : Bool) (l : List ℕ). onlyIf b l sizes) same (joined-ext _+_ 0 sizes _ _ (λ i _. sizes-are i));
+    }
 
 -- one size in every scenario
 pub same-size : (size i : ℕ) → i < scenarios → size ≡ getD (replicate 7 size) i 0

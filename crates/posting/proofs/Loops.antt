@@ -2,7 +2,7 @@
 use Prim.Native.Nat.{ℕ, _+_, _-_, _≤_, _<_}
 use mathlib.Core.List.{List}
 use mathlib.Core.Logic.{_⊎_, inl, inr, ⊎-elim}
-use mathlib.Core.Path.{_≡_, refl, sym, ap, ap₂, _∙_}
+use mathlib.Core.Path.{_≡_, refl, sym, ap, ap₂, subst, _∙_}
 use native.Mathlib.Decide.{ℕ-discrete}
 use native.Mathlib.Nat.{add-zero}
 use native.Mathlib.Omega.{arith}
@@ -12,9 +12,10 @@ use borrow.Author.Tests.{lt-ltb, le-ltb, eq-eqb, ne-eqb}
 use Rattle.laws.specs.Tests.{if_then_else_, _is_, _below_}
 use Rattle.laws.specs.Lists.{tabulate, joined, section, splice}
 use Rattle.laws.proofs.Tests.{lt-or-ge}
-use Rattle.laws.proofs.Lists.{tabulate-at, tabulate-past, tabulate-is}
+use Rattle.laws.proofs.Lists.{tabulate-length, tabulate-at, tabulate-past, tabulate-is}
 use Rattle.laws.proofs.Sections.{length-section, section-at, length-splice, splice-before, splice-in, splice-after}
 use Rattle.laws.proofs.Filling.{Filled}
+use Rattle.posting.specs.Parts.{AtMost}
 use Rattle.laws.proofs.Joins.{joined-length, joined-at, joined-is, joined-ext}
 
 module _ {A : Type 0} (d : A) where
@@ -44,6 +45,17 @@ raised f l n b x e h w = tabulate-is 0 new (λ k. f k + (if k is b then x else 0
 pub tabulate-all : (P : ℕ → Type 0) (f : ℕ → ℕ) (n : ℕ) → ((j : ℕ) → j < n → P (f j)) → P 0 → (j : ℕ) → P (getD (tabulate f n) j 0)
 tabulate-all P f n h z j =
     ⊎-elim (λ (o : j < n). rw (tabulate-at f n j 0 o) (h j o)) (λ (o : n ≤ j). rw (tabulate-past f n j 0 o) z) (lt-or-ge j n)
+
+-- ---- a list that was filled by a rule: its length, a bound of its numbers, a number of it
+
+pub row-long : (f : ℕ → ℕ) (n : ℕ) {l : List ℕ} → l ≡ tabulate f n → length l ≡ n
+row-long f n e = ap length e ∙ tabulate-length f n
+
+pub row-small : (f : ℕ → ℕ) (n b : ℕ) {l : List ℕ} → l ≡ tabulate f n → ((k : ℕ) → k < n → f k ≤ b) → AtMost b l
+row-small f n b e h = subst (AtMost b) (sym e) (tabulate-all (λ x. x ≤ b) f n h (omega arith))
+
+pub row-at : (f : ℕ → ℕ) (n : ℕ) {l : List ℕ} → l ≡ tabulate f n → (k : ℕ) → k < n → getD l k 0 ≡ f k
+row-at f n e k o = ap (λ (m : List ℕ). getD m k 0) e ∙ tabulate-at f n k 0 o
 
 module _ {A : Type 0} (op : A → A → A) (d : A) where
   -- ---- joined from the front: f at the places passed, and nothing after

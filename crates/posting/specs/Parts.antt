@@ -1,16 +1,18 @@
 -- A currency's parts of the arrays, and what is left in them. 14 is tested first: what is over the limit changes nothing.
-use Prim.Native.Nat.{ℕ, suc, _%_, _≤_}
+use Prim.Native.Nat.{ℕ, suc, _+_, _*_, _/_, _%_, _<_, _≤_}
 use mathlib.Core.Bool.{Bool}
-use mathlib.Core.List.{List}
+use mathlib.Core.List.{List, [], _∷_}
 use mathlib.Core.Path.{_≡_}
 use lib.IntN.{ℤ, pos, natAbs}
 use lib.ListN.{length, getD}
+use denote.Ref.{now}
 use Rattle.laws.specs.Tests.{if_then_else_, _is_}
 use Rattle.paper.specs.declared.Refusal.the-variants.{OverLimit}
 use Rattle.paper.specs.Scales.{billion}
 use Rattle.paper.specs.Ladder.{buckets}
 use Rattle.paper.specs.Flow.{scenarios, sided}
 use Rattle.paper.specs.Ledger.{sectionSize}
+use Rattle.arrays.specs.Lent.{Lent}
 use Rattle.arrays.specs.Slots.{plus, plusℤ, roomFor, onlyIf}
 use Rattle.posting.specs.declared.Taken.{Taken}
 use Rattle.posting.specs.declared.Taken.the-variants.{Done, Refused}
@@ -46,8 +48,32 @@ pub record Admitted (more sums : List ℕ) (answer : Bool) (sums' : List ℕ) : 
 unfoldable pub column : ℕ → ℤ → ℕ → ℤ
 column bucket amount j = if bucket is suc (j % buckets) then amount else pos 0
 
+-- kinds 5 and 6: the multipliers that there are (001, tables 5 and 6), that of the base first
+unfoldable pub threeMultipliers : List ℕ
+threeMultipliers = 10 ∷ 8 ∷ 12 ∷ []
+
+-- rows of nineteen flows one after another, the row that each scenario has, and the sum of each row
+pub record RowParts (rows which sums : List ℕ) : Type 0 where
+  pub rows-long : length rows ≡ buckets * length sums
+  pub which-long : length which ≡ scenarios
+  pub which-in : (i : ℕ) → i < scenarios → getD which i 0 < length sums
+  pub rows-small : AtMost trillion rows
+  pub sums-small : AtMost trillion sums
+
+-- by the place in a section, and by scenario
+abbrev pub rowFlow : List ℕ → List ℕ → ℕ → ℕ
+rowFlow rows which j = getD rows (buckets * getD which (j / buckets) 0 + j % buckets) 0
+
+abbrev pub rowSum : List ℕ → List ℕ → ℕ → ℕ
+rowSum sums which i = getD sums (getD which i 0) 0
+
 -- flows by the place in a section, all of one side, and their magnitude in each scenario
 pub record Entered (amounts : ℕ → ℕ) (side : ℕ) (more : ℕ → ℕ) (section : List ℤ) (sizes : List ℕ) (answer : Taken) (section' : List ℤ) (sizes' : List ℕ) : Type 0 where
   pub answered : answer ≡ answerOf (roomFor more sizes scenarios)
   pub cells : section' ≡ onlyIf (roomFor more sizes scenarios) (plusℤ section (λ j. sided side (pos (amounts j)))) section
   pub sums : sizes' ≡ onlyIf (roomFor more sizes scenarios) (plus sizes more) sizes
+
+-- by what a function is lent
+abbrev pub Enters : (ℕ → ℕ) → ℕ → (ℕ → ℕ) → Lent ℤ → Lent ℕ → Taken → Type 0
+Enters amounts side more section sizes answer =
+    Entered amounts side more (now (section .entry)) (now (sizes .entry)) answer (now (section .exit)) (now (sizes .exit))

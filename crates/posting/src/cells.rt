@@ -1,15 +1,15 @@
 // The writers of a section: a scenario's nineteen cells start at 19 times the scenario.
-ghost use Prim.Native.Nat.{_%_, _<_, _≤_};
+ghost use Prim.Native.Nat.{ℕ, _+_, _*_, _<_, _≤_};
 ghost use mathlib.Core.Path.{_≡_};
 ghost use lib.ListN.{length, getD, set};
 ghost use lib.IntN.{pos, natAbs, _+ℤ_};
 ghost use mir.Syntax.{w64};
 ghost use mir.Val.{SFits};
-ghost use Rattle.paper.specs.Flow.{sided};
+ghost use Rattle.paper.specs.Flow.{scenarios, sided};
 ghost use Rattle.paper.specs.Ladder.{buckets};
 ghost use Rattle.paper.specs.Ledger.{sectionSize};
 ghost use Rattle.arrays.specs.Slots.{plusℤ};
-ghost use Rattle.posting.specs.Parts.{AtMost, AtMostℤ, column, trillion};
+ghost use Rattle.posting.specs.Parts.{AtMost, AtMostℤ, column, rowFlow, trillion};
 use ladder::Thousands;
 use paper::BUCKETS;
 use paper::SCENARIOS;
@@ -70,18 +70,21 @@ pub fn add_flows(cells: &mut [i64], side: u32, flows: &[u64])
     }
 }
 
-// One row of nineteen flows in every scenario.
-pub fn add_row(section: &mut [i64], side: u32, row: &[u64])
-    requires { ⌜ (length (now section) ≡ sectionSize) × (length (now row) ≡ buckets) ⌝ }
+// Rows of nineteen flows: each scenario has the row that the table names.
+pub fn add_rows(section: &mut [i64], side: u32, rows: &[u64], which: &[usize])
+    requires { ⌜ (length (now section) ≡ sectionSize) × (length (now which) ≡ scenarios) ⌝ }
     requires { ⌜ AtMostℤ trillion (now section) ⌝ }
-    requires { ⌜ AtMost trillion (now row) ⌝ }
-    ensures { λ _. ⌜ now (section .exit) ≡ plusℤ (now (section .entry)) (λ j. sided side (pos (getD (now (row .entry)) (j % buckets) 0))) ⌝ }
+    requires { ⌜ AtMost trillion (now rows) ⌝ }
+    requires { ⌜ ((i : ℕ) → i < scenarios → buckets * getD (now which) i 0 + buckets ≤ length (now rows)) ⌝ }
+    ensures { λ _. ⌜ now (section .exit) ≡ plusℤ (now (section .entry)) (λ j. sided side (pos (rowFlow (now (rows .entry)) (now (which .entry)) j))) ⌝ }
 {
     let mut i: usize = 0;
     while i < SCENARIOS {
         let from = BUCKETS * i;
         let to = from + BUCKETS;
-        add_flows(&mut section[from..to], side, row);
+        let first = BUCKETS * which[i];
+        let last = first + BUCKETS;
+        add_flows(&mut section[from..to], side, &rows[first..last]);
         i += 1;
     }
 }

@@ -1,32 +1,48 @@
-// A record's own flows, worked out beforehand, and 14 before any of them is written.
-ghost use Prim.Native.Nat.{_%_, _≤_};
+// A record's own flows, worked out beforehand in rows of nineteen, and 14 before any of them is written.
+ghost use Prim.Native.Nat.{ℕ, _%_, _<_, _≤_};
 ghost use mathlib.Core.Path.{_≡_};
 ghost use lib.ListN.{length, getD};
+ghost use Rattle.laws.specs.Lists.{tabulate};
 ghost use Rattle.paper.specs.Ladder.{buckets};
 ghost use Rattle.paper.specs.Flow.{scenarios};
-ghost use Rattle.paper.specs.Ledger.{sectionSize};
-ghost use Rattle.posting.specs.Parts.{AtMost, FlowParts, Entered, trillion};
+ghost use Rattle.posting.specs.Parts.{AtMost, FlowParts, RowParts, Enters, rowFlow, rowSum, trillion};
 use crate::Taken;
-use crate::cells::add_flows;
-use crate::cells::add_row;
+use crate::cells::add_rows;
 use crate::over_limit;
 use crate::room::admits;
 use paper::SCENARIOS;
 
-pub fn enter(
-    flows: &[u64],
+// The sum of the row that each scenario has.
+fn scenario_sums(sums: &[u64], which: &[usize], more: &mut [u64])
+    requires { ⌜ (length (now which) ≡ scenarios) × (length (now more) ≡ scenarios) ⌝ }
+    requires { ⌜ ((i : ℕ) → i < scenarios → getD (now which) i 0 < length (now sums)) ⌝ }
+    ensures { λ _. ⌜ now (more .exit) ≡ tabulate (rowSum (now (sums .entry)) (now (which .entry))) scenarios ⌝ }
+{
+    let mut i: usize = 0;
+    while i < SCENARIOS {
+        let row = which[i];
+        more[i] = sums[row];
+        i += 1;
+    }
+}
+
+// The rows one after another, the row that each scenario has, and the sum of each row.
+pub fn enter_rows(
+    rows: &[u64],
+    which: &[usize],
     side: u32,
-    more: &[u64],
+    sums: &[u64],
     section: &mut [i64],
     sizes: &mut [u64],
 ) -> Taken
-    requires { ⌜ (length (now flows) ≡ sectionSize) × (length (now more) ≡ scenarios) ⌝ }
-    requires { ⌜ AtMost trillion (now flows) × AtMost trillion (now more) ⌝ }
+    requires { ⌜ RowParts (now rows) (now which) (now sums) ⌝ }
     requires { ⌜ FlowParts (now section) (now sizes) ⌝ }
-    ensures { λ r. ⌜ Entered (λ j. getD (now (flows .entry)) j 0) side (λ i. getD (now (more .entry)) i 0) (now (section .entry)) (now (sizes .entry)) r (now (section .exit)) (now (sizes .exit)) ⌝ }
+    ensures { λ r. ⌜ Enters (rowFlow (now (rows .entry)) (now (which .entry))) side (rowSum (now (sums .entry)) (now (which .entry))) section sizes r ⌝ }
 {
-    if admits(sizes, more) {
-        add_flows(section, side, flows);
+    let mut more = [0u64; SCENARIOS];
+    scenario_sums(sums, which, &mut more);
+    if admits(sizes, &more) {
+        add_rows(section, side, rows, which);
         return Taken::Done;
     }
     over_limit()
@@ -36,12 +52,9 @@ pub fn enter(
 pub fn enter_row(row: &[u64], side: u32, size: u64, section: &mut [i64], sizes: &mut [u64]) -> Taken
     requires { ⌜ (length (now row) ≡ buckets) × AtMost trillion (now row) × (size ≤ trillion) ⌝ }
     requires { ⌜ FlowParts (now section) (now sizes) ⌝ }
-    ensures { λ r. ⌜ Entered (λ j. getD (now (row .entry)) (j % buckets) 0) side (λ i. size) (now (section .entry)) (now (sizes .entry)) r (now (section .exit)) (now (sizes .exit)) ⌝ }
+    ensures { λ r. ⌜ Enters (λ j. getD (now (row .entry)) (j % buckets) 0) side (λ i. size) section sizes r ⌝ }
 {
-    let more = [size; SCENARIOS];
-    if admits(sizes, &more) {
-        add_row(section, side, row);
-        return Taken::Done;
-    }
-    over_limit()
+    let which = [0usize; SCENARIOS];
+    let sums = [size];
+    enter_rows(row, &which, side, &sums, section, sizes)
 }

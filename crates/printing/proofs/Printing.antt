@@ -15,6 +15,7 @@ use Rattle.paper.specs.Records.{Record, currencies}
 use Rattle.paper.specs.Ledger.{totals, curved, cells, figures}
 use Rattle.paper.specs.Verdict.{reportOf}
 use Rattle.paper.specs.Book.{outcome, reportAfter}
+use Rattle.printing.specs.BookText.{bookText}
 use Rattle.paper.specs.Program.{capitalIn, programOutcome, changesLine, changesLines, reportText, refusalText, textOf, printed}
 use Rattle.arrays.specs.Masks.{curvedBy, MaskOf}
 use Rattle.book.specs.declared.assess.Assessed.{Assessed}
@@ -64,11 +65,11 @@ module _ {book : List ℕ} {T : ℕ} {report ledger report' ledger' : List ℤ} 
   here = rw (sym report-long, sym ledger-long) (p .answers)
 
   pub prints-report : (curves : ℕ) → a ≡ Reported curves
-      → reportText currencies (curvedBy curves) report' ≡ textOf currencies (outcome currencies book T (figures currencies) (cells currencies)) T
+      → reportText currencies (curvedBy curves) report' ≡ bookText book T
   prints-report curves e = report-printed a (outcome currencies book T (figures currencies) (cells currencies)) curves e report-long here
 
   pub prints-refusal : (f : Fault) (number : ℕ) → a ≡ Refused f → number ≡ numberOf (f .cause)
-      → refusalText number (f .place) ≡ textOf currencies (outcome currencies book T (figures currencies) (cells currencies)) T
+      → refusalText number (f .place) ≡ bookText book T
   prints-refusal f number e n =
       ap (λ (x : ℕ). refusalText x (f .place)) n ∙ refusal-printed a (outcome currencies book T (figures currencies) (cells currencies)) f e here
 
@@ -85,6 +86,6 @@ module _ (input : List ℕ) where
     short-input h = rw (le-ltb 65536 (length input) fits, lt-ltb (length input) 8 h)
 
     pub whole-input : 8 ≤ length input
-        → textOf currencies (outcome currencies (drop 8 input) (capitalIn input) (figures currencies) (cells currencies)) (capitalIn input) ≡ printed currencies input
+        → bookText (drop 8 input) (capitalIn input) ≡ printed currencies input
     unfolding printed programOutcome
     whole-input h = rw (le-ltb 65536 (length input) fits, le-ltb (length input) 8 h)

@@ -4,9 +4,8 @@ ghost use mathlib.Core.Path.{_≡_};
 ghost use Prim.Native.Nat.{_≤_};
 ghost use lib.ListN.{length, drop};
 ghost use Rattle.paper.specs.Records.{currencies};
-ghost use Rattle.paper.specs.Ledger.{cells, figures};
-ghost use Rattle.paper.specs.Book.{outcome};
-ghost use Rattle.paper.specs.Program.{capitalIn, textOf, printed};
+ghost use Rattle.paper.specs.Program.{capitalIn, printed};
+ghost use Rattle.printing.specs.BookText.{bookText};
 use book::assess::Assessed;
 use book::assess::assess;
 use book::face::refusal_number;
@@ -33,8 +32,8 @@ fn capital_in(input: &[u8]) -> u64
 // The rooms are just as long as a report and a ledger.
 fn print_book(book: &[u8], tier1: u64, out: &mut [u8]) -> usize
     requires { ⌜ 2048 ≤ length (now out) ⌝ }
-    ensures { λ r. ⌜ (r ≡ length (textOf currencies (outcome currencies (now (book .entry)) tier1 (figures currencies) (cells currencies)) tier1)) × (r ≤ 2048) ⌝ }
-    ensures { λ r. ⌜ now (out .exit) ≡ textOf currencies (outcome currencies (now (book .entry)) tier1 (figures currencies) (cells currencies)) tier1 ++ drop r (now (out .entry)) ⌝ }
+    ensures { λ r. ⌜ (r ≡ length (bookText (now (book .entry)) tier1)) × (r ≤ 2048) ⌝ }
+    ensures { λ r. ⌜ now (out .exit) ≡ bookText (now (book .entry)) tier1 ++ drop r (now (out .entry)) ⌝ }
 {
     let mut report = [0i64; FIGURES];
     let mut ledger = [0i64; CELLS];

@@ -11,9 +11,9 @@ use Rattle.laws.proofs.Sums.{sum-upto}
 use Rattle.laws.proofs.Totals.{sum-list}
 use Rattle.paper.specs.Ladder.{buckets}
 use Rattle.paper.specs.Records.{deposit, termDeposit, flows}
-use Rattle.paper.specs.Behaviour.{depositFlow, moved, withdrawalRate, termDepositFlow}
+use Rattle.paper.specs.Behaviour.{wholeRate, depositFlow, moved, withdrawalRate, termDepositFlow}
 use Rattle.paper.specs.Flow.{sided, flowOf, flow}
-use Rattle.paper.proofs.Deposits.{moved-nil, deposit-adds-up, term-deposit-adds-up}
+use Rattle.paper.proofs.Deposits.{moved-nil, deposit-adds-up, moves-add-up}
 use Rattle.laws.proofs.Filling.{Filled}
 use Rattle.posting.proofs.Loops.{raised}
 
@@ -43,10 +43,8 @@ withdrawn-row rate amounts row early few long stays moves =
     let all : early ≡ total (moved rate) amounts = moves ∙ sum-list (moved rate) (moved-nil rate) amounts buckets few in
     raised _ row buckets 0 early long stays (omega arith) ∙ rw all
 
-pub withdrawn-small : (share : ℕ) (amounts : List ℕ) → length amounts ≤ buckets → (i k : ℕ) → k < buckets
-    → termDepositFlow (withdrawalRate share i) amounts k ≤ sumOf amounts
-withdrawn-small share amounts few i k l =
-    omega (arith, sum-upto (termDepositFlow (withdrawalRate share i) amounts) k buckets l, term-deposit-adds-up share i amounts few)
+pub withdrawn-small : (rate : ℕ) (amounts : List ℕ) → rate ≤ wholeRate → length amounts ≤ buckets → (k : ℕ) → k < buckets → termDepositFlow rate amounts k ≤ sumOf amounts
+withdrawn-small rate amounts h few k l = omega (arith, sum-upto (termDepositFlow rate amounts) k buckets l, moves-add-up rate amounts h few)
 
 pub withdrawn-flow : (c share : ℕ) (amounts : List ℕ) (i k : ℕ)
     → sided 2 (pos (termDepositFlow (withdrawalRate share i) amounts k)) ≡ flow (flows c (termDeposit share amounts)) i k

@@ -1,42 +1,32 @@
--- Flows of all seven scenarios in one list, a row of nineteen for each; the multipliers of the scenarios.
-use Prim.Native.Nat.{ℕ, _/_, _%_, _≤_, _<_}
-use mathlib.Core.Bool.{true}
+-- Flows in rows of nineteen, and the row and the rate that each scenario has.
+use Prim.Native.Nat.{ℕ, _+_, _*_, _/_, _%_, _<_, min}
+use mathlib.Core.Bool.{Bool, true, _&&_}
 use mathlib.Core.List.{List}
-use mathlib.Core.Path.{_≡_, sym, ap, subst, _∙_}
+use mathlib.Core.Path.{_≡_, sym, ap, ap₂, _∙_}
 use native.Mathlib.Omega.{arith}
 use lib.IntN.{ℤ, pos}
-use lib.ListN.{length, getD}
-use borrow.Author.Tests.{leb-true}
-use Rattle.laws.specs.Tests.{_upTo_, all}
+use lib.ListN.{getD}
+use borrow.Author.Tests.{ltb-true, eqb-true}
+use Rattle.laws.specs.Tests.{_is_, _below_, all}
 use Rattle.laws.specs.Lists.{tabulate}
-use Rattle.laws.proofs.Tests.{all-at}
-use Rattle.laws.proofs.Lists.{tabulate-length, tabulate-at}
+use Rattle.laws.proofs.Tests.{and-true, all-at}
 use Rattle.laws.proofs.Filling.{byRow}
 use Rattle.paper.specs.Ladder.{buckets}
 use Rattle.paper.specs.Refusals.{Checked, accepted}
 use Rattle.paper.specs.Records.{Record}
+use Rattle.paper.specs.Behaviour.{wholeRate, behaviouralRate}
 use Rattle.paper.specs.Flow.{scenarios, sided, flow, magnitude}
-use Rattle.paper.specs.Ledger.{sectionSize}
 use Rattle.posting.specs.declared.Taken.{Taken}
-use Rattle.posting.specs.Parts.{AtMost, FlowParts, Entered}
-use Rattle.posting.proofs.Loops.{tabulate-all}
+use Rattle.posting.specs.Parts.{FlowParts, Entered, rowFlow, rowSum, threeMultipliers}
+use Rattle.posting.proofs.Loops.{row-at}
 use Rattle.slotting.specs.Answers.{FlowsTaken}
 use Rattle.slotting.proofs.Flows.{entered-taken}
 
--- by the place in a section
+-- by the place in the rows of the three rates
 abbrev pub byPlace : (ℕ → ℕ → ℕ) → ℕ → ℕ
-byPlace row = byRow 0 row buckets sectionSize
+byPlace row = byRow 0 row buckets 57
 
--- ---- a row, or a row for each scenario, once filled: its bound, and whose flows it is
-
-pub row-long : (f : ℕ → ℕ) (n : ℕ) {l : List ℕ} → l ≡ tabulate f n → length l ≡ n
-row-long f n e = ap length e ∙ tabulate-length f n
-
-pub row-small : (f : ℕ → ℕ) (n b : ℕ) {l : List ℕ} → l ≡ tabulate f n → ((k : ℕ) → k < n → f k ≤ b) → AtMost b l
-row-small f n b e h = subst (AtMost b) (sym e) (tabulate-all (λ x. x ≤ b) f n h (omega arith))
-
-pub row-at : (f : ℕ → ℕ) (n : ℕ) {l : List ℕ} → l ≡ tabulate f n → (k : ℕ) → k < n → getD l k 0 ≡ f k
-row-at f n e k o = ap (λ (m : List ℕ). getD m k 0) e ∙ tabulate-at f n k 0 o
+-- ---- a row, or rows of which each scenario has one, once filled: whose flows they are
 
 module _ (r : Record) {read : Checked Record} (accepts : read ≡ accepted r) (side : ℕ) {section section' : List ℤ} {sizes sizes' l : List ℕ} {answer : Taken} (parts : FlowParts section sizes) where
   pub row-taken : (f : ℕ → ℕ) (size : ℕ) → l ≡ tabulate f buckets → ((i k : ℕ) → sided side (pos (f k)) ≡ flow r i k) → ((i : ℕ) → magnitude r i ≡ size)
@@ -46,15 +36,31 @@ module _ (r : Record) {read : Checked Record} (accepts : read ≡ accepted r) (s
       (λ j o. ap (λ (n : ℕ). sided side (pos n)) (row-at f buckets e (j % buckets) (omega arith)) ∙ flows-are (j / buckets) (j % buckets))
       (λ i o. sym (sized i))
 
-  pub rows-taken : (row : ℕ → ℕ → ℕ) (more : ℕ → ℕ) → l ≡ tabulate (byPlace row) sectionSize → ((i k : ℕ) → sided side (pos (row i k)) ≡ flow r i k)
-      → ((i : ℕ) → i < scenarios → more i ≡ magnitude r i) → Entered (λ j. getD l j 0) side more section sizes answer section' sizes'
-      → FlowsTaken read section sizes answer section' sizes'
-  rows-taken row more e flows-are sized =
-      entered-taken r accepts _ side more parts
-      (λ j o. ap (λ (n : ℕ). sided side (pos n)) (row-at (byPlace row) sectionSize e j o) ∙ flows-are (j / buckets) (j % buckets))
-      sized
+  pub rows-taken : (row : ℕ → ℕ → ℕ) (which sums : List ℕ) → l ≡ tabulate (byPlace row) 57 → ((i : ℕ) → i < scenarios → getD which i 0 < 3)
+      → ((i k : ℕ) → i < scenarios → sided side (pos (row (getD which i 0) k)) ≡ flow r i k) → ((i : ℕ) → i < scenarios → rowSum sums which i ≡ magnitude r i)
+      → Entered (rowFlow l which) side (rowSum sums which) section sizes answer section' sizes' → FlowsTaken read section sizes answer section' sizes'
+  rows-taken row which sums e within flows-are sized =
+      entered-taken r accepts _ side _ parts (λ j o. here j (within (j / buckets) (omega arith)) ∙ flows-are (j / buckets) (j % buckets) (omega arith)) sized
+    where
+      here : (j : ℕ) → getD which (j / buckets) 0 < 3 → sided side (pos (rowFlow l which j)) ≡ sided side (pos (row (getD which (j / buckets) 0) (j % buckets)))
+      here j o =
+          let n = getD which (j / buckets) 0 in
+          let at : (19 * n + j % 19) / 19 ≡ n = omega arith in
+          let bucket : (19 * n + j % 19) % 19 ≡ j % 19 = omega arith in
+          ap (λ (x : ℕ). sided side (pos x)) (row-at (byPlace row) 57 e (19 * n + j % 19) (omega arith) ∙ ap₂ row at bucket)
 
--- ---- the multipliers
+-- ---- which of the three rates a scenario has: a table, tied to the paper's multipliers by one computed test
 
-pub multiplier-small : (multipliers : List ℕ) → all (λ i. getD multipliers i 0 upTo 12) 0 7 ≡ true → (i : ℕ) → i < 7 → getD multipliers i 0 ≤ 12
-multiplier-small multipliers t i l = leb-true _ _ (all-at (λ j. getD multipliers j 0 upTo 12) 0 7 t i (omega arith) l)
+abbrev pub tied : List ℕ → List ℕ → Bool
+tied which multipliers = all (λ i. getD which i 0 below 3 && getD threeMultipliers (getD which i 0) 0 is getD multipliers i 0) 0 7
+
+module _ (which multipliers : List ℕ) (t : tied which multipliers ≡ true) (i : ℕ) (l : i < 7) where
+  both : (getD which i 0 below 3 ≡ true) × ((getD threeMultipliers (getD which i 0) 0 is getD multipliers i 0) ≡ true)
+  both = and-true _ _ (all-at (λ j. getD which j 0 below 3 && getD threeMultipliers (getD which j 0) 0 is getD multipliers j 0) 0 7 t i (omega arith) l)
+
+  pub tied-within : getD which i 0 < 3
+  tied-within = ltb-true _ _ (both .0)
+
+  pub tied-rate : (share : ℕ) → behaviouralRate threeMultipliers share (getD which i 0) ≡ behaviouralRate multipliers share i
+  unfolding behaviouralRate
+  tied-rate share = ap (λ (m : ℕ). min (share * m) wholeRate) (eqb-true _ _ (both .1))

@@ -4,10 +4,12 @@ use mathlib.Core.Bool.{not}
 use mathlib.Core.List.{List}
 use mathlib.Core.Path.{_≡_}
 use lib.IntN.{ℤ}
+use denote.Ref.{now}
 use Rattle.paper.specs.declared.Refusal.the-variants.{OverLimit}
 use Rattle.paper.specs.Refusals.{Checked, accepted, refused, _>>=_, unless}
 use Rattle.paper.specs.Records.{Record}
 use Rattle.paper.specs.Flow.{scenarios, shocked, magnitude}
+use Rattle.arrays.specs.Lent.{Lent}
 use Rattle.arrays.specs.Slots.{withFlows, withRates, withSizes, withAddOns, withOptionSizes, optionMagnitude, roomFor}
 use Rattle.posting.specs.declared.Taken.{Taken}
 use Rattle.posting.specs.declared.Taken.the-variants.{Done, Refused}
@@ -32,6 +34,10 @@ pub record FlowsTaken (read : Checked Record) (section : List ℤ) (sizes : List
   pub cells : section' ≡ into withFlows (flowsFit sizes read) section
   pub sums : sizes' ≡ into withSizes (flowsFit sizes read) sizes
 
+-- by what the function is lent
+abbrev pub TakesFlows : Checked Record → Lent ℤ → Lent ℕ → Taken → Type 0
+TakesFlows read section sizes answer = FlowsTaken read (now (section .entry)) (now (sizes .entry)) answer (now (section .exit)) (now (sizes .exit))
+
 -- ---- kind 7, in the 6 option sizes and 6 add-ons, of scenarios 1 to 6
 
 unfoldable pub optionsFit : List ℕ → Checked Record → Checked Record
@@ -41,6 +47,9 @@ pub record OptionTaken (read : Checked Record) (sizes : List ℕ) (addOns : List
   pub answered : answer ≡ takenOf (optionsFit sizes read)
   pub sums : sizes' ≡ into withOptionSizes (optionsFit sizes read) sizes
   pub values : addOns' ≡ into withAddOns (optionsFit sizes read) addOns
+
+abbrev pub TakesOption : Checked Record → Lent ℕ → Lent ℤ → Taken → Type 0
+TakesOption read sizes addOns answer = OptionTaken read (now (sizes .entry)) (now (addOns .entry)) answer (now (sizes .exit)) (now (addOns .exit))
 
 -- ---- kind 8, in the 133 rates: 14 does not touch a curve
 

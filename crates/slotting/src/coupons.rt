@@ -11,7 +11,7 @@ ghost use Rattle.paper.specs.Flow.{due, couponsDue};
 ghost use Rattle.paper.specs.Decode.{decodeCoupons};
 ghost use Rattle.record.specs.Answers.{Body};
 ghost use Rattle.posting.specs.Parts.{FlowParts};
-ghost use Rattle.slotting.specs.Answers.{FlowsTaken};
+ghost use Rattle.slotting.specs.Answers.{TakesFlows};
 use ladder::bucket_of;
 use paper::BUCKETS;
 use posting::Taken;
@@ -73,7 +73,7 @@ fn coupon_row(period: u32, count: u32, coupon: u32, principal: u32, row: &mut [u
 pub fn take_coupons(currency: u32, body: &[u8], section: &mut [i64], sizes: &mut [u64]) -> Taken
     requires { ⌜ Body 13 currency (now body) ⌝ }
     requires { ⌜ FlowParts (now section) (now sizes) ⌝ }
-    ensures { λ r. ⌜ FlowsTaken (decodeCoupons currencies (now (body .entry))) (now (section .entry)) (now (sizes .entry)) r (now (section .exit)) (now (sizes .exit)) ⌝ }
+    ensures { λ r. ⌜ TakesFlows (decodeCoupons currencies (now (body .entry))) section sizes r ⌝ }
 {
     match decode_coupons(currency, body) {
         DecodedCoupons::Refused(fault) => Taken::Refused(fault),

@@ -12,7 +12,7 @@ ghost use Rattle.paper.specs.Decode.{decodeDeposit};
 ghost use Rattle.fields.specs.Answers.{amountsFrom};
 ghost use Rattle.record.specs.Answers.{Body};
 ghost use Rattle.posting.specs.Parts.{AtMost, FlowParts};
-ghost use Rattle.slotting.specs.Answers.{FlowsTaken};
+ghost use Rattle.slotting.specs.Answers.{TakesFlows};
 use paper::BUCKETS;
 use posting::Taken;
 use posting::amounts::amount_of;
@@ -38,7 +38,7 @@ fn core_row(body: &[u8], total: u64, row: &mut [u64])
 pub fn take_deposit(currency: u32, body: &[u8], section: &mut [i64], sizes: &mut [u64]) -> Taken
     requires { ⌜ Body 82 currency (now body) ⌝ }
     requires { ⌜ FlowParts (now section) (now sizes) ⌝ }
-    ensures { λ r. ⌜ FlowsTaken (decodeDeposit currencies (now (body .entry))) (now (section .entry)) (now (sizes .entry)) r (now (section .exit)) (now (sizes .exit)) ⌝ }
+    ensures { λ r. ⌜ TakesFlows (decodeDeposit currencies (now (body .entry))) section sizes r ⌝ }
 {
     match decode_deposit(currency, body) {
         DecodedDeposit::Refused(fault) => Taken::Refused(fault),

@@ -2,7 +2,7 @@
 ghost use Prim.Native.Nat.{_%_, _≤_};
 ghost use Rattle.paper.specs.Ladder.{buckets};
 ghost use Rattle.paper.specs.Flow.{due};
-ghost use Rattle.posting.specs.Parts.{FlowParts, Entered};
+ghost use Rattle.posting.specs.Parts.{FlowParts, Enters};
 use ladder::bucket_of;
 use paper::SCENARIOS;
 use posting::Taken;
@@ -21,7 +21,7 @@ pub fn slot_due(
 ) -> Taken
     requires { ⌜ amount ≤ 2_000_000_000 ⌝ }
     requires { ⌜ FlowParts (now section) (now sizes) ⌝ }
-    ensures { λ r. ⌜ Entered (λ j. due (record { months = months; days = days }) amount (j % buckets)) side (λ i. amount) (now (section .entry)) (now (sizes .entry)) r (now (section .exit)) (now (sizes .exit)) ⌝ }
+    ensures { λ r. ⌜ Enters (λ j. due (record { months = months; days = days }) amount (j % buckets)) side (λ i. amount) section sizes r ⌝ }
 {
     let more = [amount; SCENARIOS];
     if admits(sizes, &more) {

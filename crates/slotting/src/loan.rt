@@ -1,5 +1,5 @@
 // Kind 5, an asset: in each bucket what is paid, prepaid and due as interest; the balance is carried from bucket to bucket.
-ghost use Prim.Native.Nat.{_+_, _-_, _/_, _%_, _≤_};
+ghost use Prim.Native.Nat.{_+_, _*_, _-_, _≤_};
 ghost use mathlib.Core.Bool.{false, _&&_};
 ghost use mathlib.Core.Path.{_≡_};
 ghost use lib.ListN.{length};
@@ -9,23 +9,21 @@ ghost use Rattle.laws.specs.Lists.{tabulate};
 ghost use Rattle.paper.specs.Scales.{billion};
 ghost use Rattle.paper.specs.Ladder.{buckets};
 ghost use Rattle.paper.specs.Records.{currencies};
-ghost use Rattle.paper.specs.Behaviour.{wholeRate, prepaymentRate, paid, prepaid, interest, loanFlow};
-ghost use Rattle.paper.specs.Flow.{scenarios};
-ghost use Rattle.paper.specs.Ledger.{sectionSize};
+ghost use Rattle.paper.specs.Behaviour.{wholeRate, paid, prepaid, interest, loanFlow};
 ghost use Rattle.paper.specs.Decode.{decodeLoan};
 ghost use Rattle.fields.specs.Answers.{amountsFrom};
 ghost use Rattle.record.specs.Answers.{Body};
 ghost use Rattle.posting.specs.Parts.{FlowParts};
-ghost use Rattle.slotting.specs.Answers.{FlowsTaken};
-ghost use Rattle.slotting.specs.Parts.{SoundSchedule};
+ghost use Rattle.slotting.specs.Answers.{TakesFlows};
+ghost use Rattle.slotting.specs.Parts.{SoundSchedule, loanRows, loanSums};
 use paper::BUCKETS;
-use paper::SCENARIOS;
-use paper::SECTION;
 use posting::Taken;
 use posting::amounts::amount_of;
 use posting::amounts::sum_from;
-use posting::flows::enter;
-use posting::rates::rate_of;
+use posting::flows::enter_rows;
+use posting::rates::RATES;
+use posting::rates::ROWS;
+use posting::rates::rates_of;
 use record::loan::DecodedLoan;
 use record::loan::decode_loan;
 
@@ -84,7 +82,7 @@ fn bucket_step(rate: u64, principal: u64, charge: u64, outstanding: u64, remaini
     }
 }
 
-// One scenario's nineteen flows, and their sum.
+// One rate's nineteen flows, and their sum.
 fn loan_row(body: &[u8], rate: u64, principal: u64, row: &mut [u64]) -> u64
     requires { ⌜ (length (now body) ≡ 155) × (rate ≤ wholeRate) × (length (now row) ≡ buckets) ⌝ }
     requires { ⌜ (principal ≡ sumOf (amountsFrom (now body) 3)) × SoundSchedule (amountsFrom (now body) 3) (amountsFrom (now body) 79) ⌝ }
@@ -108,21 +106,21 @@ fn loan_row(body: &[u8], rate: u64, principal: u64, row: &mut [u64]) -> u64
     total
 }
 
-// All seven scenarios, nineteen flows each, and the sum of each.
-fn loan_flows(body: &[u8], share: u32, flows: &mut [u64], more: &mut [u64])
-    requires { ⌜ (length (now body) ≡ 155) × (share ≤ 10000) × (length (now flows) ≡ sectionSize) × (length (now more) ≡ scenarios) ⌝ }
+// The rows of the three rates, and the sum of each.
+fn loan_rows(body: &[u8], share: u32, rows: &mut [u64], sums: &mut [u64])
+    requires { ⌜ (length (now body) ≡ 155) × (share ≤ 10000) × (length (now rows) ≡ buckets * 3) × (length (now sums) ≡ 3) ⌝ }
     requires { ⌜ SoundSchedule (amountsFrom (now body) 3) (amountsFrom (now body) 79) ⌝ }
-    ensures { λ _. ⌜ now (flows .exit) ≡ tabulate (λ j. loanFlow (prepaymentRate share (j / buckets)) (amountsFrom (now (body .entry)) 3) (amountsFrom (now (body .entry)) 79) (j % buckets)) sectionSize ⌝ }
-    ensures { λ _. ⌜ now (more .exit) ≡ tabulate (λ i. sum (loanFlow (prepaymentRate share i) (amountsFrom (now (body .entry)) 3) (amountsFrom (now (body .entry)) 79)) buckets) scenarios ⌝ }
+    ensures { λ _. ⌜ now (rows .exit) ≡ loanRows share (now (body .entry)) ⌝ }
+    ensures { λ _. ⌜ now (sums .exit) ≡ loanSums share (now (body .entry)) ⌝ }
 {
-    let multipliers = [10u32, 8, 12, 8, 12, 8, 12];
+    let rates = rates_of(share);
     let principal = sum_from(body, 3);
     let mut i: usize = 0;
-    while i < SCENARIOS {
-        let rate = rate_of(share, multipliers[i]);
+    while i < RATES {
+        let rate = rates[i];
         let from = BUCKETS * i;
         let to = from + BUCKETS;
-        more[i] = loan_row(body, rate, principal, &mut flows[from..to]);
+        sums[i] = loan_row(body, rate, principal, &mut rows[from..to]);
         i += 1;
     }
 }
@@ -130,15 +128,17 @@ fn loan_flows(body: &[u8], share: u32, flows: &mut [u64], more: &mut [u64])
 pub fn take_loan(currency: u32, body: &[u8], section: &mut [i64], sizes: &mut [u64]) -> Taken
     requires { ⌜ Body 155 currency (now body) ⌝ }
     requires { ⌜ FlowParts (now section) (now sizes) ⌝ }
-    ensures { λ r. ⌜ FlowsTaken (decodeLoan currencies (now (body .entry))) (now (section .entry)) (now (sizes .entry)) r (now (section .exit)) (now (sizes .exit)) ⌝ }
+    ensures { λ r. ⌜ TakesFlows (decodeLoan currencies (now (body .entry))) section sizes r ⌝ }
 {
     match decode_loan(currency, body) {
         DecodedLoan::Refused(fault) => Taken::Refused(fault),
         DecodedLoan::Is(loan) => {
-            let mut flows = [0u64; SECTION];
-            let mut more = [0u64; SCENARIOS];
-            loan_flows(body, loan.share, &mut flows, &mut more);
-            enter(&flows, 1, &more, section, sizes)
+            // Which of the three rates each scenario has (001, table 5).
+            let which = [0usize, 1, 2, 1, 2, 1, 2];
+            let mut rows = [0u64; ROWS];
+            let mut sums = [0u64; RATES];
+            loan_rows(body, loan.share, &mut rows, &mut sums);
+            enter_rows(&rows, &which, 1, &sums, section, sizes)
         }
     }
 }

@@ -1,5 +1,5 @@
 // Kind 7: sold values add to the currency's add-ons, bought ones subtract. They make no flow; 14 has sums of their own for them.
-ghost use Prim.Native.Nat.{ℕ, _≤_};
+ghost use Prim.Native.Nat.{ℕ};
 ghost use mathlib.Core.Path.{_≡_};
 ghost use lib.IntN.{pos, natAbs};
 ghost use lib.ListN.{length, getD};
@@ -12,7 +12,7 @@ ghost use Rattle.paper.specs.Decode.{decodeOption};
 ghost use Rattle.arrays.specs.Slots.{plusℤ};
 ghost use Rattle.record.specs.Answers.{Body};
 ghost use Rattle.posting.specs.Parts.{AtMostℤ};
-ghost use Rattle.slotting.specs.Answers.{OptionTaken};
+ghost use Rattle.slotting.specs.Answers.{TakesOption};
 ghost use Rattle.slotting.specs.Parts.{OptionParts};
 use ladder::Thousands;
 use paper::SHOCKED;
@@ -54,7 +54,7 @@ fn add_values(addons: &mut [i64], side: u32, values: &[i64])
 fn slot_values(side: u32, values: &[i64], sizes: &mut [u64], addons: &mut [i64]) -> Taken
     requires { ⌜ (length (now values) ≡ shocked) × AtMostℤ billion (now values) ⌝ }
     requires { ⌜ OptionParts (now sizes) (now addons) ⌝ }
-    ensures { λ r. ⌜ ((c : ℕ) → OptionTaken (accepted (option c side (now (values .entry)))) (now (sizes .entry)) (now (addons .entry)) r (now (sizes .exit)) (now (addons .exit))) ⌝ }
+    ensures { λ r. ⌜ ((c : ℕ) → TakesOption (accepted (option c side (now (values .entry)))) sizes addons r) ⌝ }
 {
     let mut more = [0u64; SHOCKED];
     magnitudes(values, &mut more);
@@ -68,7 +68,7 @@ fn slot_values(side: u32, values: &[i64], sizes: &mut [u64], addons: &mut [i64])
 pub fn take_option(currency: u32, body: &[u8], sizes: &mut [u64], addons: &mut [i64]) -> Taken
     requires { ⌜ Body 26 currency (now body) ⌝ }
     requires { ⌜ OptionParts (now sizes) (now addons) ⌝ }
-    ensures { λ r. ⌜ OptionTaken (decodeOption currencies (now (body .entry))) (now (sizes .entry)) (now (addons .entry)) r (now (sizes .exit)) (now (addons .exit)) ⌝ }
+    ensures { λ r. ⌜ TakesOption (decodeOption currencies (now (body .entry))) sizes addons r ⌝ }
 {
     match decode_option(currency, body) {
         DecodedOption::Refused(fault) => Taken::Refused(fault),

@@ -1,26 +1,26 @@
 // Kind 6, a liability: from each bucket's amount the part at the scenario's rate, rounded down, moves to bucket 1; the rest stays.
-ghost use Prim.Native.Nat.{_/_, _%_, _<_, _≤_};
+ghost use Prim.Native.Nat.{_*_, _≤_};
 ghost use mathlib.Core.Path.{_≡_};
 ghost use lib.ListN.{length};
 ghost use Rattle.laws.specs.Lists.{tabulate};
 ghost use Rattle.paper.specs.Scales.{billion};
 ghost use Rattle.paper.specs.Ladder.{buckets};
 ghost use Rattle.paper.specs.Records.{currencies};
-ghost use Rattle.paper.specs.Behaviour.{wholeRate, moved, withdrawalRate, termDepositFlow};
-ghost use Rattle.paper.specs.Ledger.{sectionSize};
+ghost use Rattle.paper.specs.Behaviour.{wholeRate, moved, termDepositFlow};
 ghost use Rattle.paper.specs.Decode.{decodeTermDeposit};
 ghost use Rattle.fields.specs.Answers.{amountsFrom};
 ghost use Rattle.record.specs.Answers.{Body};
 ghost use Rattle.posting.specs.Parts.{AtMost, FlowParts};
-ghost use Rattle.slotting.specs.Answers.{FlowsTaken};
+ghost use Rattle.slotting.specs.Answers.{TakesFlows};
+ghost use Rattle.slotting.specs.Parts.{termDepositRows};
 use paper::BUCKETS;
-use paper::SCENARIOS;
-use paper::SECTION;
 use posting::Taken;
 use posting::amounts::amount_of;
 use posting::amounts::sum_from;
-use posting::flows::enter;
-use posting::rates::rate_of;
+use posting::flows::enter_rows;
+use posting::rates::RATES;
+use posting::rates::ROWS;
+use posting::rates::rates_of;
 use record::term_deposit::DecodedTermDeposit;
 use record::term_deposit::decode_term_deposit;
 
@@ -31,7 +31,7 @@ fn moved(rate: u64, amount: u64) -> u64
     amount * rate / 100000
 }
 
-// One scenario's nineteen flows.
+// One rate's nineteen flows.
 fn withdrawn(body: &[u8], rate: u64, row: &mut [u64])
     requires { ⌜ (length (now body) ≡ 79) × (rate ≤ wholeRate) × (length (now row) ≡ buckets) ⌝ }
     requires { ⌜ AtMost billion (amountsFrom (now body) 3) ⌝ }
@@ -49,19 +49,19 @@ fn withdrawn(body: &[u8], rate: u64, row: &mut [u64])
     row[0] += early;
 }
 
-// All seven scenarios, nineteen flows each.
-fn withdrawn_flows(body: &[u8], share: u32, flows: &mut [u64])
-    requires { ⌜ (length (now body) ≡ 79) × (share ≤ 10000) × (length (now flows) ≡ sectionSize) ⌝ }
+// The rows of the three rates.
+fn withdrawn_rows(body: &[u8], share: u32, rows: &mut [u64])
+    requires { ⌜ (length (now body) ≡ 79) × (share ≤ 10000) × (length (now rows) ≡ buckets * 3) ⌝ }
     requires { ⌜ AtMost billion (amountsFrom (now body) 3) ⌝ }
-    ensures { λ _. ⌜ now (flows .exit) ≡ tabulate (λ j. termDepositFlow (withdrawalRate share (j / buckets)) (amountsFrom (now (body .entry)) 3) (j % buckets)) sectionSize ⌝ }
+    ensures { λ _. ⌜ now (rows .exit) ≡ termDepositRows share (now (body .entry)) ⌝ }
 {
-    let multipliers = [10u32, 12, 8, 8, 12, 12, 8];
+    let rates = rates_of(share);
     let mut i: usize = 0;
-    while i < SCENARIOS {
-        let rate = rate_of(share, multipliers[i]);
+    while i < RATES {
+        let rate = rates[i];
         let from = BUCKETS * i;
         let to = from + BUCKETS;
-        withdrawn(body, rate, &mut flows[from..to]);
+        withdrawn(body, rate, &mut rows[from..to]);
         i += 1;
     }
 }
@@ -74,15 +74,17 @@ pub fn take_term_deposit(
 ) -> Taken
     requires { ⌜ Body 79 currency (now body) ⌝ }
     requires { ⌜ FlowParts (now section) (now sizes) ⌝ }
-    ensures { λ r. ⌜ FlowsTaken (decodeTermDeposit currencies (now (body .entry))) (now (section .entry)) (now (sizes .entry)) r (now (section .exit)) (now (sizes .exit)) ⌝ }
+    ensures { λ r. ⌜ TakesFlows (decodeTermDeposit currencies (now (body .entry))) section sizes r ⌝ }
 {
     match decode_term_deposit(currency, body) {
         DecodedTermDeposit::Refused(fault) => Taken::Refused(fault),
         DecodedTermDeposit::Is(deposit) => {
-            let more = [sum_from(body, 3); SCENARIOS];
-            let mut flows = [0u64; SECTION];
-            withdrawn_flows(body, deposit.share, &mut flows);
-            enter(&flows, 2, &more, section, sizes)
+            // Which of the three rates each scenario has (001, table 6).
+            let which = [0usize, 2, 1, 1, 2, 2, 1];
+            let mut rows = [0u64; ROWS];
+            withdrawn_rows(body, deposit.share, &mut rows);
+            let sums = [sum_from(body, 3); RATES];
+            enter_rows(&rows, &which, 2, &sums, section, sizes)
         }
     }
 }

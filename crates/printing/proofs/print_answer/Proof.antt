@@ -8,7 +8,7 @@ use lib.ListN.{drop}
 use Rattle.paper.specs.Records.{currencies}
 use Rattle.paper.specs.Ledger.{cells, figures}
 use Rattle.paper.specs.Book.{outcome}
-use Rattle.paper.specs.Program.{textOf}
+use Rattle.printing.specs.BookText.{bookText}
 use borrow.Author.Needs.{needs}
 use Rattle.printing.proofs.Printing.{stands-as, long-input, short-input, whole-input}
 use Rattle.printing.proofs.print_answer.Statement.{statement}
@@ -57,8 +57,8 @@ returns-3 c =
     let input = c .before .before .before .before .before .before .before .before .before .before .args .input .now in
     let T = c .before .before .before .before .before .capital-in .ensures in
     stands-as _
-    (ap (λ (book : List ℕ). textOf currencies (outcome currencies book (c .before .before .before .before .before .capital-in .result) (figures currencies) (cells currencies)) (c .before .before .before .before .before .capital-in .result)) (part-to-end input 8)
-    ∙ ap (λ (t : ℕ). textOf currencies (outcome currencies (drop 8 input) t (figures currencies) (cells currencies)) t) T
+    (ap (λ (book : List ℕ). bookText book (c .before .before .before .before .before .capital-in .result)) (part-to-end input 8)
+    ∙ ap (λ (t : ℕ). bookText (drop 8 input) t) T
     ∙ whole-input input (omega arith) (omega arith))
     (omega arith) (c .before .before .print-book .ensures)
 

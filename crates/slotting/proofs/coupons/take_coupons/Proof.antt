@@ -5,7 +5,8 @@ use Rattle.paper.specs.Decode.{decodeCoupons}
 use Rattle.paper.proofs.Magnitudes.{size-coupons}
 use Rattle.record.specs.Answers.{couponsOf, couponsRead}
 use Rattle.posting.specs.Parts.{trillion}
-use Rattle.slotting.proofs.Rows.{row-long, row-small, row-taken}
+use Rattle.posting.proofs.Loops.{row-long, row-small}
+use Rattle.slotting.proofs.Rows.{row-taken}
 use Rattle.slotting.proofs.Schedule.{scheduled, scheduled-small, scheduled-flow, size-small}
 use mathlib.Core.Bool.{false}
 use mathlib.Core.List.{List}

@@ -7,7 +7,8 @@ use Rattle.paper.proofs.Magnitudes.{size-deposit}
 use Rattle.fields.specs.Answers.{amountsFrom}
 use Rattle.record.specs.Answers.{depositOf, depositRead}
 use Rattle.posting.specs.Parts.{trillion}
-use Rattle.slotting.proofs.Rows.{row-long, row-small, row-taken}
+use Rattle.posting.proofs.Loops.{row-long, row-small}
+use Rattle.slotting.proofs.Rows.{row-taken}
 use Rattle.slotting.proofs.DepositRows.{core-small, core-flow}
 use mathlib.Core.Bool.{false}
 use mathlib.Core.List.{List}

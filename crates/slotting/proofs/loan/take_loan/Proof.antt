@@ -1,18 +1,21 @@
--- `take_loan`: refused by its decoder, or the flows of seven scenarios entered.
-use Prim.Native.Nat.{ℕ, _/_, _%_}
+-- `take_loan`: refused by its decoder, or the rows of three rates entered.
+use Prim.Native.Nat.{ℕ, _/_, _%_, _<_}
+use lib.IntN.{pos}
+use lib.ListN.{getD}
+use Rattle.paper.specs.Flow.{sided}
+use Rattle.laws.specs.Tests.{all}
 use Rattle.laws.specs.Sums.{sum}
 use Rattle.paper.specs.Ladder.{buckets}
-use Rattle.paper.specs.Behaviour.{prepaymentRate, loanFlow}
-use Rattle.paper.specs.Flow.{scenarios}
-use Rattle.paper.specs.Ledger.{sectionSize}
+use Rattle.paper.specs.Behaviour.{behaviouralRate, prepaymentMultipliers, prepaymentRate, loanFlow}
 use Rattle.paper.specs.Decode.{decodeLoan}
 use Rattle.fields.specs.Answers.{amountsFrom}
 use Rattle.record.specs.Answers.{loanOf, loanRead}
-use Rattle.posting.specs.Parts.{trillion}
-use Rattle.slotting.proofs.Rows.{byPlace, row-at, row-long, row-small, rows-taken}
+use Rattle.posting.specs.Parts.{threeMultipliers, trillion}
+use Rattle.posting.proofs.Loops.{row-at, row-long, row-small}
+use Rattle.slotting.proofs.Rows.{byPlace, rows-taken, tied, tied-within, tied-rate}
 use Rattle.slotting.proofs.Prepayment.{loan-flow, loan-size, loan-small, schedule-of}
-use mathlib.Core.Bool.{false}
-use mathlib.Core.List.{List}
+use mathlib.Core.Bool.{true, false}
+use mathlib.Core.List.{List, [], _∷_}
 use mathlib.Core.Path.{_≡_, refl, sym, ap, _∙_}
 use native.Mathlib.Omega.{arith}
 use borrow.Author.Needs.{needs}
@@ -49,42 +52,53 @@ enum-known-fault c = search needs
 enum-known-loan : tie.Need-enum-known-loan
 enum-known-loan c = search needs
 
--- a loan's nineteen flows in each scenario
+-- a loan's nineteen flows at each of the three rates
 abbrev row : tie.After-known-told2 → ℕ → ℕ → ℕ
-row w i = loanFlow (prepaymentRate (fields w .share) i) (amountsFrom (body w) 3) (amountsFrom (body w) 79)
+row w n = loanFlow (behaviouralRate threeMultipliers (fields w .share) n) (amountsFrom (body w) 3) (amountsFrom (body w) 79)
 
-slice-aggregate-loan-flows : tie.Need-slice-aggregate-loan-flows
-slice-aggregate-loan-flows c = search needs
+abbrev which : List ℕ
+which = 0 ∷ 1 ∷ 2 ∷ 1 ∷ 2 ∷ 1 ∷ 2 ∷ []
 
-slice-aggregate-loan-flows-2 : tie.Need-slice-aggregate-loan-flows-2
-slice-aggregate-loan-flows-2 c = search needs
+chosen : tied which prepaymentMultipliers ≡ true
+unfolding all threeMultipliers prepaymentMultipliers
+chosen = refl
 
-loan-flows-requires : tie.Need-loan-flows-requires
+slice-aggregate-loan-rows : tie.Need-slice-aggregate-loan-rows
+slice-aggregate-loan-rows c = search needs
+
+slice-aggregate-loan-rows-2 : tie.Need-slice-aggregate-loan-rows-2
+slice-aggregate-loan-rows-2 c = search needs
+
+loan-rows-requires : tie.Need-loan-rows-requires
 unfolding SoundFlows
-loan-flows-requires c κs =
+loan-rows-requires c κs =
     let w = c .before .before in
     ((w .before .before .before .before .before .before .pre .0 .long, sound w .0 .to, refl, refl), schedule-of (fields w .share) _ _ (sound w))
 
-slice-aggregate-enter : tie.Need-slice-aggregate-enter
-slice-aggregate-enter c = search needs
+slice-aggregate-enter-rows : tie.Need-slice-aggregate-enter-rows
+slice-aggregate-enter-rows c = search needs
 
-slice-aggregate-enter-2 : tie.Need-slice-aggregate-enter-2
-slice-aggregate-enter-2 c = search needs
+slice-aggregate-enter-rows-2 : tie.Need-slice-aggregate-enter-rows-2
+slice-aggregate-enter-rows-2 c = search needs
 
-enter-requires : tie.Need-enter-requires
-enter-requires c κs =
-    let w = c .before .before .before .before .before .before .before .before .before in
+slice-aggregate-enter-rows-3 : tie.Need-slice-aggregate-enter-rows-3
+slice-aggregate-enter-rows-3 c = search needs
+
+enter-rows-requires : tie.Need-enter-rows-requires
+enter-rows-requires c κs =
+    let w = c .before .before .before .before .before .before .before .before .before .before in
     let share = fields w .share in
-    let filled = c .before .before .before .before .before .before .loan-flows .ensures in
+    let filled = c .before .before .before .before .before .before .before .loan-rows .ensures in
+    let long = row-long (λ n. sum (row w n) buckets) 3 (filled .1) in
     let small = loan-small (amountsFrom (body w) 3) (amountsFrom (body w) 79) (amounts-few (body w) 79) (schedule-of share _ _ (sound w)) in (
-      (row-long (byPlace (row w)) sectionSize (filled .0), row-long (λ i. sum (row w i) buckets) scenarios (filled .1)),
-      (
-        (
-          row-small (byPlace (row w)) sectionSize trillion (filled .0) (λ j l. omega (arith, small (prepaymentRate share (j / buckets)) .1 (j % buckets) (omega arith))),
-          row-small (λ i. sum (row w i) buckets) scenarios trillion (filled .1) (λ i l. omega (arith, small (prepaymentRate share i) .0)),
-        ),
-        w .before .before .before .before .before .before .pre .1,
-      ),
+      record {
+        rows-long = omega (arith, row-long (byPlace (row w)) 57 (filled .0), long);
+        which-long = refl;
+        which-in = λ i l. omega (arith, tied-within which prepaymentMultipliers chosen i l, long);
+        rows-small = row-small (byPlace (row w)) 57 trillion (filled .0) (λ j l. omega (arith, small (behaviouralRate threeMultipliers share (j / buckets)) .1 (j % buckets) (omega arith)));
+        sums-small = row-small (λ n. sum (row w n) buckets) 3 trillion (filled .1) (λ n l. omega (arith, small (behaviouralRate threeMultipliers share n) .0));
+      },
+      w .before .before .before .before .before .before .pre .1,
     )
 
 returns : tie.Need-returns
@@ -99,12 +113,20 @@ same-length-2 c = search needs
 
 returns-2 : tie.Need-returns-2
 returns-2 c =
-    let w = c .before .before .before .before .before .before .before .before .before .before .before .before .before in
+    let w = c .before .before .before .before .before .before .before .before .before .before .before .before .before .before in
     let l = fields w in
-    let filled = c .before .before .before .before .before .before .before .before .before .before .loan-flows .ensures in
-    rows-taken _ (read w) 1 (w .before .before .before .before .before .before .pre .1) (row w) _ (filled .0) (loan-flow (l .currency) (l .share) (amountsFrom (body w) 3) (amountsFrom (body w) 79))
-    (λ i o. row-at (λ n. sum (row w n) buckets) scenarios (filled .1) i o ∙ loan-size (l .currency) (l .share) (amountsFrom (body w) 3) (amountsFrom (body w) 79) i)
-    (c .before .before .before .enter .ensures)
+    let principals = amountsFrom (body w) 3 in
+    let interests = amountsFrom (body w) 79 in
+    let filled = c .before .before .before .before .before .before .before .before .before .before .before .loan-rows .ensures in
+    let within = tied-within which prepaymentMultipliers chosen in
+    let rate : (i : ℕ) → i < 7 → behaviouralRate threeMultipliers (l .share) (getD which i 0) ≡ prepaymentRate (l .share) i = λ i o. tied-rate which prepaymentMultipliers chosen i o (l .share) in
+    rows-taken _ (read w) 1 (w .before .before .before .before .before .before .pre .1) (row w) which (c .before .before .before .before .before .before .before .before .before .before .before .loan-rows .last .1 .1 .1 .0) (filled .0) within
+    (λ i k o. ap (λ (x : ℕ). sided 1 (pos (loanFlow x principals interests k))) (rate i o) ∙ loan-flow (l .currency) (l .share) principals interests i k)
+    (λ i o.
+    row-at (λ n. sum (row w n) buckets) 3 (filled .1) _ (within i o)
+    ∙ ap (λ (x : ℕ). sum (loanFlow x principals interests) buckets) (rate i o)
+    ∙ loan-size (l .currency) (l .share) principals interests i)
+    (c .before .before .before .enter-rows .ensures)
 
 pub take-loan-spec : {M : Type 1} → statement M
 take-loan-spec =
@@ -113,12 +135,13 @@ take-loan-spec =
     decode-loan-requires
     enum-known-fault
     enum-known-loan
-    slice-aggregate-loan-flows
-    slice-aggregate-loan-flows-2
-    loan-flows-requires
-    slice-aggregate-enter
-    slice-aggregate-enter-2
-    enter-requires
+    slice-aggregate-loan-rows
+    slice-aggregate-loan-rows-2
+    loan-rows-requires
+    slice-aggregate-enter-rows
+    slice-aggregate-enter-rows-2
+    slice-aggregate-enter-rows-3
+    enter-rows-requires
     returns
     same-length
     same-length-2
