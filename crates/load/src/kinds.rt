@@ -20,21 +20,21 @@ use slotting::option_add_on::take_option;
 use slotting::single::take_single;
 use slotting::term_deposit::take_term_deposit;
 
-const KINDS: usize = 8;
-
-// The bytes of a kind's body, by its number; there is no kind 0.
-const BODY_LENGTHS: [usize; KINDS + 1] = [0, 9, 13, 13, 82, 155, 79, 26, 83];
-
-// 0 where there is no such kind.
+// The bytes of a kind's body; 0 where there is no such kind. A table would be copied for every record; the compiler makes one of the `match`.
 fn body_length(kind: u8) -> usize
-    ensures { λ r. ⌜ (r ≡ bodyLength kind) × (r ≤ 255) ⌝ }
+    ensures { λ r. ⌜ (r ≡ bodyLength kind) × (r ≤ 155) ⌝ }
 {
-    let lengths = BODY_LENGTHS;
-    let row = kind as usize;
-    if row <= KINDS {
-        return lengths[row];
+    match kind {
+        1 => 9,
+        2 => 13,
+        3 => 13,
+        4 => 82,
+        5 => 155,
+        6 => 79,
+        7 => 26,
+        8 => 83,
+        _ => 0,
     }
-    0
 }
 
 pub fn stands_at(book: &[u8], at: usize) -> Found

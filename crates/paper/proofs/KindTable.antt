@@ -2,7 +2,7 @@
 use Prim.Native.Nat.{ℕ, zero, suc}
 use mathlib.Core.Bool.{Bool, true, false}
 use mathlib.Core.List.{List}
-use mathlib.Core.Path.{_≡_, refl}
+use mathlib.Core.Path.{_≡_, refl, sym, ap, _∙_}
 use native.Mathlib.Omega.{arith}
 use borrow.Author.Tests.{eqb-true, eqb-false, ltb-false, ne-eqb}
 use Rattle.laws.specs.Tests.{if_then_else_, _is_}
@@ -145,11 +145,14 @@ module _ (top : ℕ) (curved : ℕ → Bool) where
   unfolding bodyLength kinds decode
   row-8 = record { long = refl; decodes = λ body. refl }
 
+pub row-length : {code kind bytes : ℕ} {top : ℕ} {curved : ℕ → Bool} {decodeIt : List ℕ → Checked Record} → Row top kind bytes curved decodeIt → code ≡ kind → bytes ≡ bodyLength code
+row-length of here = sym (ap bodyLength here ∙ of .long)
+
 abbrev pub NoneOf : ℕ → Type 0
 NoneOf k = ((((((((Unit {0} × (k ≡ 1 → ⊥)) × (k ≡ 2 → ⊥)) × (k ≡ 3 → ⊥)) × (k ≡ 4 → ⊥)) × (k ≡ 5 → ⊥)) × (k ≡ 6 → ⊥)) × (k ≡ 7 → ⊥)) × (k ≡ 8 → ⊥))
 
-none-such : (kind : ℕ) → NoneOf kind → unknownKind kind ≡ true
-unfolding unknownKind bodyLength kinds
+pub none-such : (kind : ℕ) → NoneOf kind → bodyLength kind ≡ 0
+unfolding bodyLength kinds
 none-such zero f = refl
 none-such (suc zero) f = absurd (f .0 .0 .0 .0 .0 .0 .0 .1 refl)
 none-such (suc (suc zero)) f = absurd (f .0 .0 .0 .0 .0 .0 .1 refl)
@@ -186,6 +189,10 @@ module _ (top : ℕ) (curved : ℕ → Bool) (kind : ℕ) (body : List ℕ) wher
       by true e = here (eqb-true kind n e)
       by false e = away (eqb-false kind n e)
 
+  no-length : bodyLength kind ≡ 0 → unknownKind kind ≡ true
+  unfolding unknownKind
+  no-length e = rw e
+
   pub first-field : FirstField top curved kind body (decode top curved kind body)
   unfolding decode curveKind touchesNothing numberOf
   first-field =
@@ -197,4 +204,4 @@ module _ (top : ℕ) (curved : ℕ → Bool) (kind : ℕ) (body : List ℕ) wher
       at 6 (λ e. flows-kind e refl (term-deposit-kind top curved body)) (λ n6.
       at 7 (λ e. add-on-kind e refl (option-kind top curved body)) (λ n7.
       at 8 (λ e. curve-kind e refl (rate-kind top curved body)) (λ n8.
-      no-kind refl (none-such kind ((((((((tt, n1), n2), n3), n4), n5), n6), n7), n8))))))))))
+      no-kind refl (no-length (none-such kind ((((((((tt, n1), n2), n3), n4), n5), n6), n7), n8)))))))))))

@@ -1,39 +1,49 @@
--- `body_length`: a row of the table, or past its end. The bound is one computed test over the rows.
-use Prim.Native.Nat.{ℕ, _≤_, _<_}
-use mathlib.Core.List.{_∷_}
-use mathlib.Core.Logic.{⊎-elim}
-use mathlib.Core.Path.{_≡_, refl, sym}
+-- `body_length`: the rows of the table of kinds, and none.
+use mathlib.Core.Path.{sym, ap, _∙_}
+use mathlib.Core.Bool.{false}
 use native.Mathlib.Omega.{arith}
-use borrow.Author.Needs.{needs}
-use borrow.Author.Tests.{leb-true}
-use lib.ListN.{length, getD, List·getD-eq-default}
-use Rattle.laws.specs.Tests.{_upTo_, all}
-use Rattle.laws.proofs.Tests.{all-at, lt-or-ge}
-use Rattle.paper.specs.Records.{kinds, bodyLength}
+use Rattle.paper.specs.Records.{bodyLength, currencies}
+use Rattle.paper.proofs.KindTable.{row-1, row-2, row-3, row-4, row-5, row-6, row-7, row-8, row-length, none-such}
 use Rattle.load.proofs.kinds.body_length.Statement.{statement}
 use Rattle.load.proofs.kinds.body_length.Tie as tie
 
-past : (kind : ℕ) → length (0 ∷ kinds) ≤ kind → bodyLength kind ≡ 0
-unfolding bodyLength
-past kind l = List·getD-eq-default (0 ∷ kinds) 0 {n = kind} l
-
-small : (kind : ℕ) → bodyLength kind ≤ 255
-unfolding bodyLength kinds all
-small kind =
-    ⊎-elim (λ (l : kind < length (0 ∷ kinds)). leb-true _ _ (all-at (λ j. bodyLength j upTo 255) 0 (length (0 ∷ kinds)) refl kind (omega arith) l))
-    (λ (l : length (0 ∷ kinds) ≤ kind). rw (past kind l) (omega arith))
-    (lt-or-ge kind (length (0 ∷ kinds)))
-
-array-read-result : tie.Need-array-read-result
-array-read-result c = search needs
-
 returns : tie.Need-returns
-unfolding bodyLength kinds
-returns c = (refl, small (c .before .args .kind))
+returns c = (row-length (row-1 currencies (λ _. false)) (c .match .keys1), omega arith)
 
 returns-2 : tie.Need-returns-2
-unfolding kinds
-returns-2 c = (sym (past (c .before .args .kind) (omega arith)), omega arith)
+returns-2 c = (row-length (row-2 currencies (λ _. false)) (c .match .keys2), omega arith)
+
+returns-3 : tie.Need-returns-3
+returns-3 c = (row-length (row-3 currencies (λ _. false)) (c .match .keys3), omega arith)
+
+returns-4 : tie.Need-returns-4
+returns-4 c = (row-length (row-4 currencies (λ _. false)) (c .match .keys4), omega arith)
+
+returns-5 : tie.Need-returns-5
+returns-5 c = (row-length (row-5 currencies (λ _. false)) (c .match .keys5), omega arith)
+
+returns-6 : tie.Need-returns-6
+returns-6 c = (row-length (row-6 currencies (λ _. false)) (c .match .keys6), omega arith)
+
+returns-7 : tie.Need-returns-7
+returns-7 c = (row-length (row-7 currencies (λ _. false)) (c .match .keys7), omega arith)
+
+returns-8 : tie.Need-returns-8
+returns-8 c = (row-length (row-8 currencies (λ _. false)) (c .match .keys8), omega arith)
+
+returns-9 : tie.Need-returns-9
+returns-9 c = (sym (none-such _ (c .match .rest)), omega arith)
 
 pub body-length-spec : {M : Type 1} → statement M
-body-length-spec = tie.close (tie.spec (λ c. search needs) array-read-result returns returns-2)
+body-length-spec =
+    tie.close
+    (tie.spec
+    returns
+    returns-2
+    returns-3
+    returns-4
+    returns-5
+    returns-6
+    returns-7
+    returns-8
+    returns-9)
