@@ -28,14 +28,14 @@ use denote.Triple.Spec.{Meets, tripleOf}
 use denote.Triple.Table.{entered}
 use denote.Triple.Walked.{says, Stays, stay-none, walkOf, goes-none, Walks, ends-at, walked, walk-meets}
 use denote.Exit.{yes}
-use Rattle.load.specs.declared.reader.Reader.{Reader}
-use Rattle.load.proofs.reader.Reader as declared
-use Rattle.load.proofs.reader.Reader.Laws as laws
-use Rattle.load.proofs.ReaderLogic.{named-by, Reads, at-place, OwnsReader, reader-twice, put-at}
-use Rattle.load.proofs.reader.moved.Key.{name as #moved}
-use Rattle.load.proofs.reader.moved as moved
-use Rattle.load.proofs.reader.moved.Statement as stated
-use Rattle.load.proofs.reader.moved.Code as code
+use Rattle.reader.specs.declared.Reader.{Reader}
+use Rattle.reader.proofs.Reader as declared
+use Rattle.reader.proofs.Reader.Laws as laws
+use Rattle.reader.proofs.ReaderLogic.{named-by, Reads, at-place, OwnsReader, reader-twice, put-at}
+use Rattle.reader.proofs.moved.Key.{name as #moved}
+use Rattle.reader.proofs.moved as moved
+use Rattle.reader.proofs.moved.Statement as stated
+use Rattle.reader.proofs.moved.Code as code
 
 abbrev at-exit : Stays (moved.ended .signature .params) (moved.ended .kept)
 at-exit = (stay-none (λ κs. Reads (κs .0)) yes, (stay-none (λ _. usize) yes, tt))

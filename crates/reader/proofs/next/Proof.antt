@@ -35,22 +35,22 @@ use denote.Triple.Table.{entered, cited}
 use denote.Triple.Walked.{says, Stays, stay-none, walkOf, goes-none, Walks, ends-at, walked, walk-meets}
 use denote.Exit.{yes}
 use denote.Triple.Clauses.{ensured, lasts}
-use Rattle.load.specs.Reader.{standsAt}
-use Rattle.load.specs.declared.reader.Reader.{Reader}
-use Rattle.load.specs.declared.reader.Found.{Found}
-use Rattle.load.proofs.reader.Reader as declared
-use Rattle.load.proofs.reader.Reader.Laws as laws
-use Rattle.load.proofs.reader.Found as found-declared
-use Rattle.load.proofs.reader.Found.Laws as found-laws
-use Rattle.load.proofs.ReaderLogic.{Lent, named-by, Reads, slice, OwnsBook, OwnsReader, reader-twice, apart, answered}
-use Rattle.load.proofs.kinds.stands_at as stands
-use Rattle.load.proofs.kinds.stands_at.Symbol as stands-symbol
-use Rattle.load.proofs.kinds.stands_at.Symbol.{name as #stands-at}
-use Rattle.load.proofs.kinds.stands_at.Met as stands-proved
-use Rattle.load.proofs.reader.next.Key.{name as #next}
-use Rattle.load.proofs.reader.next as next
-use Rattle.load.proofs.reader.next.Statement as stated
-use Rattle.load.proofs.reader.next.Code as code
+use Rattle.reader.specs.Reader.{standsAt}
+use Rattle.reader.specs.declared.Reader.{Reader}
+use Rattle.reader.specs.declared.Found.{Found}
+use Rattle.reader.proofs.Reader as declared
+use Rattle.reader.proofs.Reader.Laws as laws
+use Rattle.reader.proofs.Found as found-declared
+use Rattle.reader.proofs.Found.Laws as found-laws
+use Rattle.reader.proofs.ReaderLogic.{Lent, named-by, Reads, slice, OwnsBook, OwnsReader, reader-twice, apart, answered}
+use Rattle.reader.proofs.stands_at as stands
+use Rattle.reader.proofs.stands_at.Symbol as stands-symbol
+use Rattle.reader.proofs.stands_at.Symbol.{name as #stands-at}
+use Rattle.reader.proofs.stands_at.Met as stands-proved
+use Rattle.reader.proofs.next.Key.{name as #next}
+use Rattle.reader.proofs.next as next
+use Rattle.reader.proofs.next.Statement as stated
+use Rattle.reader.proofs.next.Code as code
 
 abbrev at-exit : Stays (next.ended .signature .params) (next.ended .kept)
 at-exit = (stay-none (λ κs. Reads (κs .0)) yes, tt)
@@ -130,4 +130,4 @@ unfolding code.routine tablesOf
 next-spec 𝓤 H 𝓜 𝓖 𝓡 =
     entered 𝓤 H (tripleOf 𝓤 H (𝓖 .A) next.signature (next.spec 𝓤 H (𝓖 .A) (𝓜 .mem) (𝓡 .run))) (tables 𝓤 H 𝓜 𝓡 code.env .C) (tables 𝓤 H 𝓜 𝓡 code.env .Λ) #next code.function
     (code.unfolded 𝓤 H 𝓜 𝓡) (meets 𝓤 H (𝓖 .A) (givenOf 𝓤 H 𝓜 𝓖) (𝓜 .mem) (𝓡 .run) (tablesOf 𝓤 H 𝓜 (tables 𝓤 H 𝓜 𝓡 code.env))
-    (cited 𝓤 H (StandsAt 𝓤 H (𝓖 .A) (givenOf 𝓤 H 𝓜 𝓖) (𝓜 .mem) (𝓡 .run)) 𝓜 𝓡 code.env #stands-at stands-symbol.routine code.calls-load·kinds·stands-at (stands-proved.met 𝓤 H 𝓜 𝓖 𝓡)))
+    (cited 𝓤 H (StandsAt 𝓤 H (𝓖 .A) (givenOf 𝓤 H 𝓜 𝓖) (𝓜 .mem) (𝓡 .run)) 𝓜 𝓡 code.env #stands-at stands-symbol.routine code.calls-reader·stands-at (stands-proved.met 𝓤 H 𝓜 𝓖 𝓡)))

@@ -3,9 +3,9 @@ use mathlib.Core.Bool.{false}
 use borrow.Author.Needs.{needs}
 use Rattle.paper.specs.Records.{currencies}
 use Rattle.paper.proofs.KindTable.{single-kind, coupons-kind, floating-kind, deposit-kind, loan-kind, term-deposit-kind, option-kind, rate-kind, row-1, row-2, row-3, row-4, row-5, row-6, row-7, row-8}
-use Rattle.load.proofs.Bodies.{row-body, flow-parts, option-parts, rate-parts, flows-body, option-body, curve-body, unknown-body}
-use Rattle.load.proofs.kinds.take_body.Statement.{statement}
-use Rattle.load.proofs.kinds.take_body.Tie as tie
+use Rattle.kinds.proofs.Bodies.{row-body, flow-parts, option-parts, rate-parts, flows-body, option-body, curve-body, unknown-body}
+use Rattle.kinds.proofs.take_body.Statement.{statement}
+use Rattle.kinds.proofs.take_body.Tie as tie
 
 take-single-requires : tie.Need-take-single-requires
 take-single-requires c κs = let s = c .before .before .before .before .before .before in (row-body (row-1 currencies (λ _. false)) (c .before .before .match .keys1) (s .pre .0), flow-parts (s .pre .1))

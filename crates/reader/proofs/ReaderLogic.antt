@@ -24,9 +24,9 @@ use denote.Slice.{sliceVal, ShrSlice, shr-slice-copy}
 use denote.Steps.{nothing, owned, peeks, heard}
 use denote.Struct.Laws as StructLaws
 use denote.Struct.Rest.{all-own, ownAt, rest, own-open, own-out, own-put, own-shut}
-use Rattle.load.specs.declared.reader.Reader.{Reader}
-use Rattle.load.proofs.reader.Reader as declared
-use Rattle.load.proofs.reader.Reader.Laws as laws
+use Rattle.reader.specs.declared.Reader.{Reader}
+use Rattle.reader.proofs.Reader as declared
+use Rattle.reader.proofs.Reader.Laws as laws
 
 -- ---- the two types, and the machine's value of a lent book
 

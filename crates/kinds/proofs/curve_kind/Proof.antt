@@ -1,8 +1,8 @@
 -- `curve_kind`: the test is the paper's.
 use mathlib.Core.Path.{refl}
 use Rattle.paper.specs.Records.{curveKind}
-use Rattle.load.proofs.kinds.curve_kind.Statement.{statement}
-use Rattle.load.proofs.kinds.curve_kind.Tie as tie
+use Rattle.kinds.proofs.curve_kind.Statement.{statement}
+use Rattle.kinds.proofs.curve_kind.Tie as tie
 
 returns : tie.Need-returns
 unfolding curveKind

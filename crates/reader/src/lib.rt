@@ -1,8 +1,8 @@
 // The book is walked record by record, first byte to last: a reader holds the lent book and its position. Its functions take it apart; the work is done on
-// slice and number by `kinds::stands_at`, and other callers have `found_at`.
+// slice and number by `stands_at`, and other callers have `found_at`.
 ghost use mathlib.Core.Path.{_≡_};
-ghost use Rattle.load.specs.Reader.{standsAt};
-use crate::kinds::stands_at;
+ghost use Rattle.reader.specs.Reader.{standsAt};
+use kinds::body_length;
 
 pub struct Reader<'a> {
     pub book: &'a [u8],
@@ -15,6 +15,25 @@ pub enum Found {
     UnknownKind,
     CutShort,
     Record(u8, usize, usize),
+}
+
+fn stands_at(book: &[u8], at: usize) -> Found
+    ensures { λ r. ⌜ r ≡ standsAt (now (book .entry)) at ⌝ }
+{
+    if book.len() <= at {
+        return Found::End;
+    }
+    let kind = book[at];
+    let bytes = body_length(kind);
+    if bytes == 0 {
+        return Found::UnknownKind;
+    }
+    let start = at + 1;
+    let next = start + bytes;
+    if book.len() < next {
+        return Found::CutShort;
+    }
+    Found::Record(kind, start, next)
 }
 
 pub fn new<'a>(book: &'a [u8]) -> Reader<'a>

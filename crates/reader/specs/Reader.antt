@@ -6,8 +6,8 @@ use Rattle.laws.specs.Tests.{if_then_else_, _upTo_}
 use Rattle.paper.specs.TurnedDown.{unknownKind, cutShort}
 use Rattle.paper.specs.Fields.{byte}
 use Rattle.paper.specs.Book.{nextAt}
-use Rattle.load.specs.declared.reader.Found.{Found}
-use Rattle.load.specs.declared.reader.Found.the-variants.{End, UnknownKind, CutShort, Record}
+use Rattle.reader.specs.declared.Found.{Found}
+use Rattle.reader.specs.declared.Found.the-variants.{End, UnknownKind, CutShort, Record}
 
 -- the end, 1, 2, or a record: its kind, where its body begins, and where it ends
 unfoldable pub standsAt : List ℕ → ℕ → Found

@@ -10,8 +10,8 @@ use lib.ListN.{length, getD, List·getD-eq-default}
 use Rattle.laws.specs.Tests.{_upTo_, all}
 use Rattle.laws.proofs.Tests.{all-at, lt-or-ge}
 use Rattle.paper.specs.Records.{kinds, bodyLength}
-use Rattle.load.proofs.kinds.body_length.Statement.{statement}
-use Rattle.load.proofs.kinds.body_length.Tie as tie
+use Rattle.kinds.proofs.body_length.Statement.{statement}
+use Rattle.kinds.proofs.body_length.Tie as tie
 
 past : (kind : ℕ) → length (0 ∷ kinds) ≤ kind → bodyLength kind ≡ 0
 unfolding bodyLength

@@ -9,8 +9,8 @@ use Rattle.paper.specs.Records.{bodyLength}
 use Rattle.paper.specs.TurnedDown.{unknownKind, cutShort}
 use Rattle.paper.specs.Fields.{byte}
 use Rattle.paper.specs.Book.{nextAt}
-use Rattle.load.specs.declared.reader.Found.the-variants.{End, UnknownKind, CutShort, Record}
-use Rattle.load.specs.Reader.{standsAt}
+use Rattle.reader.specs.declared.Found.the-variants.{End, UnknownKind, CutShort, Record}
+use Rattle.reader.specs.Reader.{standsAt}
 
 module _ (book : List ℕ) (at : ℕ) where
   pub stands-end : length book ≤ at → End ≡ standsAt book at

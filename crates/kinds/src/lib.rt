@@ -5,9 +5,7 @@ ghost use Rattle.paper.specs.Records.{bodyLength, curveKind};
 ghost use Rattle.arrays.specs.Arrays.{PartsHold};
 ghost use Rattle.arrays.specs.Lent.{lent, before, after};
 ghost use Rattle.record.specs.Answers.{Body};
-ghost use Rattle.load.specs.Reader.{standsAt};
-ghost use Rattle.load.specs.Step.{TakesBody};
-use crate::reader::Found;
+ghost use Rattle.kinds.specs.Bodies.{TakesBody};
 use paper::Fault;
 use paper::Refusal;
 use posting::Taken;
@@ -26,7 +24,7 @@ const KINDS: usize = 8;
 const BODY_LENGTHS: [usize; KINDS + 1] = [0, 9, 13, 13, 82, 155, 79, 26, 83];
 
 // 0 where there is no such kind.
-fn body_length(kind: u8) -> usize
+pub fn body_length(kind: u8) -> usize
     ensures { λ r. ⌜ (r ≡ bodyLength kind) × (r ≤ 255) ⌝ }
 {
     let lengths = BODY_LENGTHS;
@@ -35,25 +33,6 @@ fn body_length(kind: u8) -> usize
         return lengths[row];
     }
     0
-}
-
-pub fn stands_at(book: &[u8], at: usize) -> Found
-    ensures { λ r. ⌜ r ≡ standsAt (now (book .entry)) at ⌝ }
-{
-    if book.len() <= at {
-        return Found::End;
-    }
-    let kind = book[at];
-    let bytes = body_length(kind);
-    if bytes == 0 {
-        return Found::UnknownKind;
-    }
-    let start = at + 1;
-    let next = start + bytes;
-    if book.len() < next {
-        return Found::CutShort;
-    }
-    Found::Record(kind, start, next)
 }
 
 // A currency's own parts are lent to the function of the kind: one `match`.

@@ -3,9 +3,9 @@ use mathlib.Core.Path.{sym, _∙_}
 use native.Mathlib.Numerals.{add-one}
 use native.Mathlib.Omega.{arith}
 use borrow.Author.Needs.{needs}
-use Rattle.load.proofs.Places.{stands-end, stands-unknown, stands-cut, stands-whole}
-use Rattle.load.proofs.kinds.stands_at.Statement.{statement}
-use Rattle.load.proofs.kinds.stands_at.Tie as tie
+use Rattle.reader.proofs.Places.{stands-end, stands-unknown, stands-cut, stands-whole}
+use Rattle.reader.proofs.stands_at.Statement.{statement}
+use Rattle.reader.proofs.stands_at.Tie as tie
 
 returns : tie.Need-returns
 returns c = stands-end _ _ (c .if1 .taken)

@@ -35,30 +35,30 @@ use denote.Triple.Table.{entered, cited}
 use denote.Triple.Walked.{says, Stays, stay-none, stay-none-slice, walkOf, goes-none, goes-none-slice, Walks, ends-at, walked, walk-meets}
 use denote.Exit.{yes}
 use denote.Triple.Clauses.{ensured, lasts}
-use Rattle.load.specs.Reader.{standsAt}
-use Rattle.load.specs.declared.reader.Reader.{Reader}
-use Rattle.load.specs.declared.reader.Found.{Found}
-use Rattle.load.proofs.reader.Reader as declared
-use Rattle.load.proofs.reader.Reader.Laws as laws
-use Rattle.load.proofs.reader.Found as found-declared
-use Rattle.load.proofs.reader.Found.Laws as found-laws
-use Rattle.load.proofs.ReaderLogic.{Lent, unnamed, Reads, slice, OwnsBook, book-twice, answered}
-use Rattle.load.proofs.reader.new as new
-use Rattle.load.proofs.reader.new.Symbol as new-symbol
-use Rattle.load.proofs.reader.new.Symbol.{name as #new}
-use Rattle.load.proofs.reader.new.Met as new-proved
-use Rattle.load.proofs.reader.moved as moved
-use Rattle.load.proofs.reader.moved.Symbol as moved-symbol
-use Rattle.load.proofs.reader.moved.Symbol.{name as #moved}
-use Rattle.load.proofs.reader.moved.Met as moved-proved
-use Rattle.load.proofs.reader.next as next
-use Rattle.load.proofs.reader.next.Symbol as next-symbol
-use Rattle.load.proofs.reader.next.Symbol.{name as #next}
-use Rattle.load.proofs.reader.next.Met as next-proved
-use Rattle.load.proofs.reader.found_at.Key.{name as #found-at}
-use Rattle.load.proofs.reader.found_at as found-at
-use Rattle.load.proofs.reader.found_at.Statement as stated
-use Rattle.load.proofs.reader.found_at.Code as code
+use Rattle.reader.specs.Reader.{standsAt}
+use Rattle.reader.specs.declared.Reader.{Reader}
+use Rattle.reader.specs.declared.Found.{Found}
+use Rattle.reader.proofs.Reader as declared
+use Rattle.reader.proofs.Reader.Laws as laws
+use Rattle.reader.proofs.Found as found-declared
+use Rattle.reader.proofs.Found.Laws as found-laws
+use Rattle.reader.proofs.ReaderLogic.{Lent, unnamed, Reads, slice, OwnsBook, book-twice, answered}
+use Rattle.reader.proofs.new as new
+use Rattle.reader.proofs.new.Symbol as new-symbol
+use Rattle.reader.proofs.new.Symbol.{name as #new}
+use Rattle.reader.proofs.new.Met as new-proved
+use Rattle.reader.proofs.moved as moved
+use Rattle.reader.proofs.moved.Symbol as moved-symbol
+use Rattle.reader.proofs.moved.Symbol.{name as #moved}
+use Rattle.reader.proofs.moved.Met as moved-proved
+use Rattle.reader.proofs.next as next
+use Rattle.reader.proofs.next.Symbol as next-symbol
+use Rattle.reader.proofs.next.Symbol.{name as #next}
+use Rattle.reader.proofs.next.Met as next-proved
+use Rattle.reader.proofs.found_at.Key.{name as #found-at}
+use Rattle.reader.proofs.found_at as found-at
+use Rattle.reader.proofs.found_at.Statement as stated
+use Rattle.reader.proofs.found_at.Code as code
 
 abbrev at-exit : Stays (found-at.ended .signature .params) (found-at.ended .kept)
 at-exit = (stay-none-slice (0 ∷ []) tt (plain (λ _. u8)) yes, (stay-none (λ _. usize) yes, tt))
@@ -180,6 +180,6 @@ unfolding code.routine tablesOf
 found-at-spec 𝓤 H 𝓜 𝓖 𝓡 =
     entered 𝓤 H (tripleOf 𝓤 H (𝓖 .A) found-at.signature (found-at.spec 𝓤 H (𝓖 .A) (𝓜 .mem) (𝓡 .run))) (tables 𝓤 H 𝓜 𝓡 code.env .C) (tables 𝓤 H 𝓜 𝓡 code.env .Λ) #found-at code.function
     (code.unfolded 𝓤 H 𝓜 𝓡) (meets 𝓤 H (𝓖 .A) (givenOf 𝓤 H 𝓜 𝓖) (𝓜 .mem) (𝓡 .run) (tablesOf 𝓤 H 𝓜 (tables 𝓤 H 𝓜 𝓡 code.env))
-    (cited 𝓤 H (New 𝓤 H (𝓖 .A) (givenOf 𝓤 H 𝓜 𝓖) (𝓜 .mem) (𝓡 .run)) 𝓜 𝓡 code.env #new new-symbol.routine code.calls-load·reader·new (new-proved.met 𝓤 H 𝓜 𝓖 𝓡))
-    (cited 𝓤 H (Moved 𝓤 H (𝓖 .A) (givenOf 𝓤 H 𝓜 𝓖) (𝓜 .mem) (𝓡 .run)) 𝓜 𝓡 code.env #moved moved-symbol.routine code.calls-load·reader·moved (moved-proved.met 𝓤 H 𝓜 𝓖 𝓡))
-    (cited 𝓤 H (Next 𝓤 H (𝓖 .A) (givenOf 𝓤 H 𝓜 𝓖) (𝓜 .mem) (𝓡 .run)) 𝓜 𝓡 code.env #next next-symbol.routine code.calls-load·reader·next (next-proved.met 𝓤 H 𝓜 𝓖 𝓡)))
+    (cited 𝓤 H (New 𝓤 H (𝓖 .A) (givenOf 𝓤 H 𝓜 𝓖) (𝓜 .mem) (𝓡 .run)) 𝓜 𝓡 code.env #new new-symbol.routine code.calls-reader·new (new-proved.met 𝓤 H 𝓜 𝓖 𝓡))
+    (cited 𝓤 H (Moved 𝓤 H (𝓖 .A) (givenOf 𝓤 H 𝓜 𝓖) (𝓜 .mem) (𝓡 .run)) 𝓜 𝓡 code.env #moved moved-symbol.routine code.calls-reader·moved (moved-proved.met 𝓤 H 𝓜 𝓖 𝓡))
+    (cited 𝓤 H (Next 𝓤 H (𝓖 .A) (givenOf 𝓤 H 𝓜 𝓖) (𝓜 .mem) (𝓡 .run)) 𝓜 𝓡 code.env #next next-symbol.routine code.calls-reader·next (next-proved.met 𝓤 H 𝓜 𝓖 𝓡)))

@@ -29,12 +29,12 @@ use denote.Triple.Spec.{Meets, tripleOf}
 use denote.Triple.Table.{entered}
 use denote.Triple.Walked.{says, Stays, stay-none-slice, walkOf, goes-none-slice, Walks, ends-at, walked, walk-meets}
 use denote.Exit.{yes}
-use Rattle.load.proofs.reader.Reader.Laws as laws
-use Rattle.load.proofs.ReaderLogic.{Lent, slice, at-place, OwnsBook, book-twice, made}
-use Rattle.load.proofs.reader.new.Key.{name as #new}
-use Rattle.load.proofs.reader.new as new
-use Rattle.load.proofs.reader.new.Statement as stated
-use Rattle.load.proofs.reader.new.Code as code
+use Rattle.reader.proofs.Reader.Laws as laws
+use Rattle.reader.proofs.ReaderLogic.{Lent, slice, at-place, OwnsBook, book-twice, made}
+use Rattle.reader.proofs.new.Key.{name as #new}
+use Rattle.reader.proofs.new as new
+use Rattle.reader.proofs.new.Statement as stated
+use Rattle.reader.proofs.new.Code as code
 
 abbrev at-exit : Stays (new.ended .signature .params) (new.ended .kept)
 at-exit = (stay-none-slice (0 ∷ []) tt (plain (λ _. u8)) yes, tt)
