@@ -23,7 +23,8 @@ use Rattle.arrays.specs.Arrays.{Arrays, arraysAs, partOf, partsOf, withParts, w
 use Rattle.arrays.proofs.Agree.{admitted-agrees, parts-agree}
 use Rattle.arrays.proofs.More.{same-arrays}
 use Rattle.posting.specs.declared.Taken.{Taken}
-use Rattle.load.specs.Step.{enteredIn, BodyTaken, entered, RecordTaken}
+use Rattle.kinds.specs.Bodies.{enteredIn, BodyTaken}
+use Rattle.load.specs.Step.{entered, RecordTaken}
 
 -- the length of a part as the code lends it, from width * n up to width * n + width, counted
 part-long : (width n : ℕ) → width * n + width - width * n ≡ width

@@ -1,7 +1,4 @@
--- what stands at a place
-pub mod Places
--- a body in its currency's parts, and the parts put back
-pub mod Bodies
+-- a currency's parts, put back
 pub mod Lending
 -- a turn of the walk, its invariant, and its end
 pub mod TurnLaws
@@ -11,5 +8,3 @@ pub mod WalkLaws
 pub mod LoadLaws
 -- any two outcomes are one
 pub mod Unique
--- what a reader owns
-pub mod ReaderLogic

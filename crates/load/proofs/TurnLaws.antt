@@ -26,9 +26,9 @@ use Rattle.posting.specs.declared.Taken.the-variants as taken
 use Rattle.slotting.specs.Answers.{takenOf}
 use Rattle.load.specs.declared.turn.Step.{Step}
 use Rattle.load.specs.declared.turn.Step.the-variants as step
-use Rattle.load.specs.declared.reader.Found.{Found}
-use Rattle.load.specs.declared.reader.Found.the-variants as found
-use Rattle.load.specs.Reader.{standsAt}
+use Rattle.reader.specs.declared.Found.{Found}
+use Rattle.reader.specs.declared.Found.the-variants as found
+use Rattle.reader.specs.Reader.{standsAt}
 use Rattle.load.specs.Step.{RecordTaken, faultAt, stepped, Stepped, Turned}
 
 -- ---- an answer of the reader, back to the tests

@@ -1,4 +1,3 @@
-pub mod Reader
 pub mod Step
 pub mod Walk
 pub mod Load

@@ -12,27 +12,14 @@ use Rattle.paper.specs.Ledger.{SoFar}
 use Rattle.paper.specs.Book.{placed, admitted, recordAt, nextAt}
 use Rattle.arrays.specs.declared.masks.Masks.{Masks}
 use Rattle.arrays.specs.Masks.{marked}
-use Rattle.arrays.specs.Rooms.{soFarBy, soFarIn}
-use Rattle.arrays.specs.Arrays.{Arrays, inParts, withRecord}
+use Rattle.arrays.specs.Rooms.{soFarBy}
+use Rattle.arrays.specs.Arrays.{Arrays, withRecord}
 use Rattle.posting.specs.declared.Taken.{Taken}
 use Rattle.slotting.specs.Answers.{takenOf}
 use Rattle.load.specs.declared.turn.Step.{Step}
 use Rattle.load.specs.declared.turn.Step.the-variants.{On, Refused, End}
 
--- ---- a body, in its currency's own parts
-
-abbrev pub enteredIn : Checked Record → Arrays → Arrays
-enteredIn (accepted r) p = inParts r p
-enteredIn (refused q place) p = p
-
-pub record BodyTaken (read : Checked Record) (p : Arrays) (answer : Taken) (p' : Arrays) : Type 0 where
-  pub answered : answer ≡ takenOf read
-  pub parts : p' ≡ enteredIn read p
-
-abbrev pub TakesBody : Bool → ℕ → List ℕ → Arrays → Taken → Arrays → Type 0
-TakesBody curved kind body p = BodyTaken (admitted currencies (soFarIn curved (p .sizes) (p .optionSizes)) kind body) p
-
--- ---- and in the arrays
+-- ---- a body, in the arrays
 
 abbrev pub entered : Checked Record → Arrays → Arrays
 entered (accepted r) a = withRecord r a

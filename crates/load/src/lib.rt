@@ -11,8 +11,6 @@ use paper::Refusal;
 use walk::Walked;
 use walk::walk;
 
-mod kinds;
-mod reader;
 mod turn;
 mod walk;
 

@@ -10,21 +10,21 @@ ghost use Rattle.arrays.specs.Arrays.{Holding};
 ghost use Rattle.arrays.specs.Lent.{lent, before, after};
 ghost use Rattle.record.specs.Answers.{Body};
 ghost use Rattle.load.specs.Step.{TakesRecord, StepsOver, Turns, faultAt};
-use crate::kinds::curve_kind;
-use crate::kinds::take_body;
-use crate::reader::Found;
-use crate::reader::found_at;
 use arrays::masks::Masks;
 use arrays::masks::has_curve;
 use arrays::masks::marked;
 use fields::Field;
 use fields::currency_at;
+use kinds::curve_kind;
+use kinds::take_body;
 use paper::Fault;
 use paper::Refusal;
 use paper::SCENARIOS;
 use paper::SECTION;
 use paper::SHOCKED;
 use posting::Taken;
+use reader::Found;
+use reader::found_at;
 
 // A record is taken, and the walk goes on at the next with these masks; or it is refused; or the book is at its end.
 pub enum Step {

@@ -166,10 +166,10 @@ fill-tolerances-requires c κs =
     )
 
 same-length : tie.Need-same-length
-same-length c = search needs
+same-length c = c .before .before .before .before .changes .given .1
 
 same-length-2 : tie.Need-same-length-2
-same-length-2 c = search needs
+same-length-2 c = c .tolerances .given .1
 
 returns : tie.Need-returns
 returns c =

@@ -29,6 +29,9 @@ take-parts-spec =
     (λ c. search needs) (λ c. search needs) (λ c. search needs) (λ c. search needs)
     (λ c. search needs) (λ c. search needs) (λ c. search needs) (λ c. search needs)
     take-body-requires
-    (λ c. search needs) (λ c. search needs) (λ c. search needs) (λ c. search needs)
-    (λ c. search needs)
+    (λ c. c .before .before .before .before .before .before .ledger .given .1)
+    (λ c. c .before .before .before .before .before .rates .given .1)
+    (λ c. c .before .before .before .before .addons .given .1)
+    (λ c. c .before .before .before .sizes .given .1)
+    (λ c. c .before .options .given .1)
     returns)

@@ -1,0 +1,2 @@
+-- a body in its currency's parts
+pub mod Bodies
