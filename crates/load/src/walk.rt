@@ -14,6 +14,7 @@ pub enum Walked {
     Refused(Fault),
 }
 
+// The masks are two numbers here and no struct, so that each has a register of its own.
 pub fn walk(
     book: &[u8],
     ledger: &mut [i64],
@@ -26,18 +27,29 @@ pub fn walk(
     ensures { λ r. ⌜ Walks (now (book .entry)) r (arraysAs (now (ledger .exit)) (now (rates .exit)) (now (addons .exit)) (now (sizes .exit)) (now (options .exit))) ⌝ }
 {
     let mut at = 0;
-    let mut masks = Masks { used: 0, curved: 0 };
+    let mut used: u32 = 0;
+    let mut curved: u32 = 0;
     loop {
-        match turn(book, at, masks, ledger, rates, addons, sizes, options) {
+        match turn(
+            book,
+            at,
+            Masks { used, curved },
+            ledger,
+            rates,
+            addons,
+            sizes,
+            options,
+        ) {
             Step::End => {
-                return Walked::All(masks);
+                return Walked::All(Masks { used, curved });
             }
             Step::Refused(fault) => {
                 return Walked::Refused(fault);
             }
-            Step::On(next, marks) => {
+            Step::On(u, next, c) => {
                 at = next;
-                masks = marks;
+                used = u;
+                curved = c;
             }
         }
     }
