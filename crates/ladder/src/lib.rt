@@ -131,8 +131,13 @@ pub fn bucket_of(months: u32, days: u32) -> usize
     ensures { λ r. ⌜ (1 ≤ r) × (r ≤ buckets) ⌝ }
 {
     match months {
-        0..=24 => within_two_years(months, days),
-        25..=120 => within_ten_years(months, days),
+        0..=120 => {
+            if months <= 24 {
+                within_two_years(months, days)
+            } else {
+                within_ten_years(months, days)
+            }
+        }
         121..=180 => by_end(months, days, 17, 180, 0),
         181..=240 => by_end(months, days, 18, 240, 0),
         _ => BUCKETS,

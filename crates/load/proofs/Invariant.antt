@@ -1,7 +1,7 @@
 -- The walk's invariant, and what each way on or out makes of it.
 use Prim.Native.Nat.{ℕ, zero, suc, pred, _+_, _-_, _≤_, _<_}
 use mathlib.Core.List.{List, [], _∷_, _++_}
-use mathlib.Core.Path.{_≡_, refl, sym, ap, _∙_}
+use mathlib.Core.Path.{_≡_, refl, sym, ap, ap₂, _∙_}
 use native.Mathlib.Numerals.{sub-one}
 use native.Mathlib.Omega.{arith}
 use borrow.Author.Tests.{le-leb, lt-leb}
@@ -23,8 +23,8 @@ use Rattle.arrays.proofs.Bounds.{holding}
 use Rattle.arrays.proofs.Sets.{MasksOf, masks-none, masks-more}
 use Rattle.arrays.proofs.Agree.{Agree, record-agrees, sound-currency}
 use Rattle.load.specs.declared.turn.Step.{Step}
-use Rattle.load.specs.declared.turn.Step.the-variants.{On, Refused}
-use Rattle.load.specs.Step.{entered, stepped, Stepped}
+use Rattle.load.specs.declared.turn.Step.the-variants.{Refused}
+use Rattle.load.specs.Step.{entered, onTo, stepped, Stepped}
 
 -- the walk is at a place with the records kept in its arrays; the fuel is more than the bytes left
 pub record Walking (book : List ℕ) (a : Arrays) (at : ℕ) (m : Masks) : Type 0 where
@@ -54,8 +54,13 @@ over zero book at kept l = refl
 over (suc fuel) book at kept l = rw (le-leb (length book) at l)
 
 -- what an answer says of what was read
-pub on-read : (x : Checked Record) (next next' : ℕ) (m m' : Masks) → On next' m' ≡ stepped x next m → (r : Record) × (x ≡ accepted r) × (next' ≡ next) × (m' ≡ marked r m)
-on-read (accepted r) next next' m m' e = (r, refl, cc, cc)
+pub on-read : (x : Checked Record) (next next' : ℕ) (m m' : Masks) → onTo next' m' ≡ stepped x next m → (r : Record) × (x ≡ accepted r) × (next' ≡ next) × (m' ≡ marked r m)
+on-read (accepted r) next next' m m' e =
+    let same : (m' .used ≡ marked r m .used) × (m' .curved ≡ marked r m .curved) = (cc, cc) in
+    (r, refl, cc, ap₂ masks (same .0) (same .1))
+  where
+    masks : ℕ → ℕ → Masks
+    masks u c = record { used = u; curved = c }
 on-read (refused q place) next next' m m' e = let z : _≡_ {A = ℕ} 0 1 = cc in absurd (omega arith)
 
 refused-read : (x : Checked Record) (next : ℕ) (m : Masks) (f : Fault) → Refused f ≡ stepped x next m → x ≡ refused (f .cause) (f .place)
@@ -112,7 +117,7 @@ module _ (book : List ℕ) (a : Arrays) (at : ℕ) (m : Masks) (w : Walking book
           good = good-more r (w .good) p;
         }
 
-    pub goes-on : (next : ℕ) (m' : Masks) → answer ≡ On next m' → Walking book a' next m'
+    pub goes-on : (next : ℕ) (m' : Masks) → answer ≡ onTo next m' → Walking book a' next m'
     goes-on next m' e =
         let f = on-read (recordAt currencies before book at) (nextAt book at) next m m' (sym e ∙ s .answered) in
         takes (f .0) next m' (f .1) (f .2) (f .3)

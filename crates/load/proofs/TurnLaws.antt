@@ -29,7 +29,7 @@ use Rattle.load.specs.declared.turn.Step.the-variants as step
 use Rattle.reader.specs.declared.Found.{Found}
 use Rattle.reader.specs.declared.Found.the-variants as found
 use Rattle.reader.specs.Reader.{standsAt}
-use Rattle.load.specs.Step.{RecordTaken, faultAt, stepped, Stepped, Turned}
+use Rattle.load.specs.Step.{RecordTaken, faultAt, onTo, stepped, Stepped, Turned}
 
 -- ---- an answer of the reader, back to the tests
 
@@ -176,7 +176,7 @@ module _ (before : SoFar) (kind at next c : ℕ) (body : List ℕ) (m : Masks) (
 
   -- it is taken, and its currency marked
   pub stepped-done : currencyAt currencies body 0 ≡ accepted c → {answer : Taken} {a' : Arrays} {m' : Masks} → RecordTaken read a answer a' → answer ≡ taken.Done → m' ≡ markedBy (curveKind kind) c m
-      → Stepped (placed at read) next m a (step.On next m') a'
+      → Stepped (placed at read) next m a (onTo next m') a'
   unfolding admitted placed
   stepped-done first t e marks =
       let d = done-taken read (sym e ∙ t .answered) in
@@ -184,7 +184,7 @@ module _ (before : SoFar) (kind at next c : ℕ) (body : List ℕ) (m : Masks) (
       let sorts : isCurve (d .0) ≡ curveKind kind = known-of (chain (first-field currencies (before .curved) kind body .marks) (λ r h. unless-known _ _ _ r tt (λ _. h))) (d .0) (d .1) in
       let mine : c ≡ currencyOf (d .0) = cc in
       rw (d .1) (record {
-        answered = ap (step.On next) (marks ∙ ap₂ (λ (b : Bool) (n : ℕ). markedBy b n m) (sym sorts) mine);
+        answered = ap (onTo next) (marks ∙ ap₂ (λ (b : Bool) (n : ℕ). markedBy b n m) (sym sorts) mine);
         arrays = rw (d .1) at (t .arrays);
       })
 

@@ -16,7 +16,7 @@ use Rattle.arrays.specs.Arrays.{Arrays}
 use Rattle.load.specs.declared.turn.Step.{Step}
 use Rattle.load.specs.declared.turn.Step.the-variants as step
 use Rattle.load.specs.declared.walk.Walked.the-variants as walked
-use Rattle.load.specs.Step.{Stepped, Turned}
+use Rattle.load.specs.Step.{onTo, Stepped, Turned}
 use Rattle.load.specs.Walk.{AllKept, Walks}
 use Rattle.load.proofs.Invariant.{Walking, on-read, ended, stops, goes-on}
 use Rattle.load.proofs.TurnLaws.{is-over, is-step}
@@ -55,7 +55,7 @@ module _ (book : List ℕ) (a : Arrays) (at : ℕ) (m : Masks) (w : Walking book
     not-end : (q : Fault) → answer ≡ step.Refused q → answer ≡ step.End → ⊥
     not-end q e f = let z : _≡_ {A = ℕ} 0 1 = cc in absurd (omega arith)
 
-    still-on : (next : ℕ) (n : Masks) → answer ≡ step.On next n → answer ≡ step.End → ⊥
+    still-on : (next : ℕ) (n : Masks) → answer ≡ onTo next n → answer ≡ step.End → ⊥
     still-on next n e f = let z : _≡_ {A = ℕ} 0 1 = cc in absurd (omega arith)
 
     pub walks-stopped : (f : Fault) → answer ≡ step.Refused f → Walks book (walked.Refused f) a'
@@ -66,11 +66,11 @@ module _ (book : List ℕ) (a : Arrays) (at : ℕ) (m : Masks) (w : Walking book
           stopped = λ g u. stops book a at m w (s .0) answer a' (s .1) f e ∙ ap (λ (h : Fault). refused (h .cause) (h .place)) (refused-once f g u);
         }
 
-    pub walks-on : (next : ℕ) (n : Masks) → answer ≡ step.On next n → Walking book a' next n
+    pub walks-on : (next : ℕ) (n : Masks) → answer ≡ onTo next n → Walking book a' next n
     walks-on next n e = let s = within (still-on next n e) in goes-on book a at m w (s .0) answer a' (s .1) next n e
 
     -- a record is at least its kind's byte
-    pub forward : (next : ℕ) (n : Masks) → answer ≡ step.On next n → (at < length book) × (at < next)
+    pub forward : (next : ℕ) (n : Masks) → answer ≡ onTo next n → (at < length book) × (at < next)
     unfolding nextAt
     forward next n e =
         let s = within (still-on next n e) in

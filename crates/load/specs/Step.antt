@@ -42,8 +42,12 @@ TakesRecord curved kind body a = RecordTaken (admitted currencies (tested curved
 abbrev pub faultAt : ℕ → Fault → Fault
 faultAt at f = record { cause = f .cause; place = at }
 
+-- the walk goes on at the next place with these masks
+abbrev pub onTo : ℕ → Masks → Step
+onTo next m = On (m .used) next (m .curved)
+
 abbrev pub stepped : Checked Record → ℕ → Masks → Step
-stepped (accepted r) next m = On next (marked r m)
+stepped (accepted r) next m = onTo next (marked r m)
 stepped (refused q place) next m = Refused (record { cause = q; place = place })
 
 pub record Stepped (read : Checked Record) (next : ℕ) (m : Masks) (a : Arrays) (answer : Step) (a' : Arrays) : Type 0 where

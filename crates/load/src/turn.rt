@@ -26,9 +26,10 @@ use posting::Taken;
 use reader::Found;
 use reader::found_at;
 
-// A record is taken, and the walk goes on at the next with these masks; or it is refused; or the book is at its end.
+// A record is taken, and the walk goes on at the next with these masks; or it is refused; or the book is at its end. The place stands between the masks: side by side
+// they are one word, to be packed and taken apart again at every record.
 pub enum Step {
-    On(usize, Masks),
+    On(u32, usize, u32),
     Refused(Fault),
     End,
 }
@@ -110,7 +111,10 @@ fn take_record(
         options,
     ) {
         Taken::Refused(fault) => Step::Refused(placed(fault, at)),
-        Taken::Done => Step::On(next, marked(masks, curve_kind(kind), currency)),
+        Taken::Done => {
+            let marks = marked(masks, curve_kind(kind), currency);
+            Step::On(marks.used, next, marks.curved)
+        }
     }
 }
 

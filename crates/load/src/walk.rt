@@ -15,6 +15,7 @@ pub enum Walked {
     Refused(Fault),
 }
 
+// The masks are two numbers here and no struct, so that each has a register of its own.
 pub fn walk(
     book: &[u8],
     ledger: &mut [i64],
@@ -27,18 +28,29 @@ pub fn walk(
     ensures { λ r. ⌜ Walks (now (book .entry)) r (after ledger rates addons sizes options) ⌝ }
 {
     let mut at = 0;
-    let mut masks = Masks { used: 0, curved: 0 };
+    let mut used: u32 = 0;
+    let mut curved: u32 = 0;
     loop {
-        match turn(book, at, masks, ledger, rates, addons, sizes, options) {
+        match turn(
+            book,
+            at,
+            Masks { used, curved },
+            ledger,
+            rates,
+            addons,
+            sizes,
+            options,
+        ) {
             Step::End => {
-                return Walked::All(masks);
+                return Walked::All(Masks { used, curved });
             }
             Step::Refused(fault) => {
                 return Walked::Refused(fault);
             }
-            Step::On(next, marks) => {
+            Step::On(uses, next, curves) => {
                 at = next;
-                masks = marks;
+                used = uses;
+                curved = curves;
             }
         }
     }

@@ -11,16 +11,16 @@ use Rattle.load.proofs.walk.walk.Statement.{statement}
 use Rattle.load.proofs.walk.walk.Tie as tie
 
 abbrev Inv-loop : tie.InvT-loop
-Inv-loop book ledger₀ rates₀ addons₀ sizes₀ options₀ at₀ m₀ ledger rates addons sizes options at m =
+Inv-loop book ledger₀ rates₀ addons₀ sizes₀ options₀ at₀ used₀ curved₀ ledger rates addons sizes options at used curved =
     (length ledger ≡ length ledger₀)
     × (length rates ≡ length rates₀)
     × (length addons ≡ length addons₀)
     × (length sizes ≡ length sizes₀)
     × (length options ≡ length options₀)
-    × Walking book (arraysAs ledger rates addons sizes options) at m
+    × Walking book (arraysAs ledger rates addons sizes options) at (record { used = used; curved = curved })
 
 abbrev μ-loop : tie.MeasureT-loop
-μ-loop book ledger₀ rates₀ addons₀ sizes₀ options₀ at₀ m₀ ledger rates addons sizes options at m = length book - at
+μ-loop book ledger₀ rates₀ addons₀ sizes₀ options₀ at₀ used₀ curved₀ ledger rates addons sizes options at used curved = length book - at
 
 loop-holds : tie.Need-loop-holds Inv-loop μ-loop
 loop-holds c =
@@ -51,7 +51,7 @@ same-length-5 c = search needs
 returns : tie.Need-returns Inv-loop μ-loop
 returns c =
     let at = c .before .before .before .before .before .before .before .before .before .before .before .before .before .before .before .loop in
-    walks-ended _ _ (at .at) (at .masks) (at .inv .5) _ _ (c .before .before .before .before .before .before .before .before .before .turn .ensures) (c .enum-told .given .1)
+    walks-ended _ _ (at .at) (record { used = at .used; curved = at .curved }) (at .inv .5) _ _ (c .before .before .before .before .before .before .before .before .before .turn .ensures) (c .enum-told .given .1)
 
 enum-known-fault : tie.Need-enum-known-fault Inv-loop μ-loop
 enum-known-fault c = search needs
@@ -74,23 +74,23 @@ same-length-10 c = search needs
 returns-2 : tie.Need-returns-2 Inv-loop μ-loop
 returns-2 c =
     let at = c .before .before .before .before .before .before .before .before .before .before .before .before .before .before .before .before .loop in
-    walks-stopped _ _ (at .at) (at .masks) (at .inv .5) _ _ (c .before .before .before .before .before .before .before .before .before .before .turn .ensures) _ (c .before .fault .given .1)
+    walks-stopped _ _ (at .at) (record { used = at .used; curved = at .curved }) (at .inv .5) _ _ (c .before .before .before .before .before .before .before .before .before .before .turn .ensures) _ (c .before .fault .given .1)
 
-enum-known-next : tie.Need-enum-known-next Inv-loop μ-loop
-enum-known-next c = search needs
+enum-known-u : tie.Need-enum-known-u Inv-loop μ-loop
+enum-known-u c = search needs
 
 loop-less : tie.Need-loop-less Inv-loop μ-loop
 loop-less c =
     let at = c .before .before .before .before .before .before .before .before .before .before .before .before .before .before .before .before .loop in
-    let on = forward _ _ (at .at) (at .masks) (at .inv .5) _ _ (c .before .before .before .before .before .before .before .before .before .before .turn .ensures) _ _ (c .before .next .given .1) in
+    let on = forward _ _ (at .at) (record { used = at .used; curved = at .curved }) (at .inv .5) _ _ (c .before .before .before .before .before .before .before .before .before .before .turn .ensures) _ (record { used = c .before .u .given .0 .0; curved = c .before .u .given .0 .1 .1 .0 }) (c .before .u .given .1) in
     omega (arith, on .0, on .1)
 
 loop-again : tie.Need-loop-again Inv-loop μ-loop
 loop-again c =
     let at = c .before .before .before .before .before .before .before .before .before .before .before .before .before .before .before .before .loop in
-    (omega arith, omega arith, omega arith, omega arith, omega arith, walks-on _ _ (at .at) (at .masks) (at .inv .5) _ _ (c .before .before .before .before .before .before .before .before .before .before .turn .ensures) _ _ (c .before .next .given .1))
+    (omega arith, omega arith, omega arith, omega arith, omega arith, walks-on _ _ (at .at) (record { used = at .used; curved = at .curved }) (at .inv .5) _ _ (c .before .before .before .before .before .before .before .before .before .before .turn .ensures) _ (record { used = c .before .u .given .0 .0; curved = c .before .u .given .0 .1 .1 .0 }) (c .before .u .given .1))
 
 pub walk-spec : {M : Type 1} → statement M
 walk-spec =
     tie.close
-    (tie.spec Inv-loop μ-loop loop-holds turn-requires enum-told same-length same-length-2 same-length-3 same-length-4 same-length-5 returns enum-known-fault same-length-6 same-length-7 same-length-8 same-length-9 same-length-10 returns-2 enum-known-next loop-less loop-again)
+    (tie.spec Inv-loop μ-loop loop-holds turn-requires enum-told same-length same-length-2 same-length-3 same-length-4 same-length-5 returns enum-known-fault same-length-6 same-length-7 same-length-8 same-length-9 same-length-10 returns-2 enum-known-u loop-less loop-again)
