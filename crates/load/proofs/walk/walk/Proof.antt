@@ -76,21 +76,21 @@ returns-2 c =
     let at = c .before .before .before .before .before .before .before .before .before .before .before .before .before .before .before .before .loop in
     walks-stopped _ _ (at .at) (record { used = at .used; curved = at .curved }) (at .inv .5) _ _ (c .before .before .before .before .before .before .before .before .before .before .turn .ensures) _ (c .before .fault .given .1)
 
-enum-known-u : tie.Need-enum-known-u Inv-loop μ-loop
-enum-known-u c = search needs
+enum-known-uses : tie.Need-enum-known-uses Inv-loop μ-loop
+enum-known-uses c = search needs
 
 loop-less : tie.Need-loop-less Inv-loop μ-loop
 loop-less c =
     let at = c .before .before .before .before .before .before .before .before .before .before .before .before .before .before .before .before .loop in
-    let on = forward _ _ (at .at) (record { used = at .used; curved = at .curved }) (at .inv .5) _ _ (c .before .before .before .before .before .before .before .before .before .before .turn .ensures) _ (record { used = c .before .u .given .0 .0; curved = c .before .u .given .0 .1 .1 .0 }) (c .before .u .given .1) in
+    let on = forward _ _ (at .at) (record { used = at .used; curved = at .curved }) (at .inv .5) _ _ (c .before .before .before .before .before .before .before .before .before .before .turn .ensures) _ (record { used = c .before .uses .given .0 .0; curved = c .before .uses .given .0 .1 .1 .0 }) (c .before .uses .given .1) in
     omega (arith, on .0, on .1)
 
 loop-again : tie.Need-loop-again Inv-loop μ-loop
 loop-again c =
     let at = c .before .before .before .before .before .before .before .before .before .before .before .before .before .before .before .before .loop in
-    (omega arith, omega arith, omega arith, omega arith, omega arith, walks-on _ _ (at .at) (record { used = at .used; curved = at .curved }) (at .inv .5) _ _ (c .before .before .before .before .before .before .before .before .before .before .turn .ensures) _ (record { used = c .before .u .given .0 .0; curved = c .before .u .given .0 .1 .1 .0 }) (c .before .u .given .1))
+    (omega arith, omega arith, omega arith, omega arith, omega arith, walks-on _ _ (at .at) (record { used = at .used; curved = at .curved }) (at .inv .5) _ _ (c .before .before .before .before .before .before .before .before .before .before .turn .ensures) _ (record { used = c .before .uses .given .0 .0; curved = c .before .uses .given .0 .1 .1 .0 }) (c .before .uses .given .1))
 
 pub walk-spec : {M : Type 1} → statement M
 walk-spec =
     tie.close
-    (tie.spec Inv-loop μ-loop loop-holds turn-requires enum-told same-length same-length-2 same-length-3 same-length-4 same-length-5 returns enum-known-fault same-length-6 same-length-7 same-length-8 same-length-9 same-length-10 returns-2 enum-known-u loop-less loop-again)
+    (tie.spec Inv-loop μ-loop loop-holds turn-requires enum-told same-length same-length-2 same-length-3 same-length-4 same-length-5 returns enum-known-fault same-length-6 same-length-7 same-length-8 same-length-9 same-length-10 returns-2 enum-known-uses loop-less loop-again)
