@@ -1,7 +1,7 @@
 -- `take_term_deposit`: refused by its decoder, or the rows of three rates entered.
-use Prim.Native.Nat.{ℕ, _/_, _%_, _≤_, _<_}
+use Prim.Native.Nat.{ℕ, _/_, _%_, _≤_}
 use lib.IntN.{pos}
-use lib.ListN.{getD, replicate, getD-replicate}
+use lib.ListN.{replicate, getD-replicate}
 use Rattle.laws.specs.Tests.{all}
 use Rattle.paper.specs.Ladder.{buckets}
 use Rattle.paper.specs.Behaviour.{behaviouralRate, withdrawalMultipliers, termDepositFlow}
