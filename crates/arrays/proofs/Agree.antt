@@ -6,21 +6,21 @@ use mathlib.Core.List.{List}
 use mathlib.Core.Path.{_≡_, refl, sym, ap, ap₂, _∙_}
 use native.Mathlib.Omega.{arith}
 use lib.IntN.{natAbs}
-use lib.ListN.{length, take, drop}
-use Rattle.laws.specs.Tests.{if_then_else_, _is_, _below_, all}
+use lib.ListN.{take, drop}
+use Rattle.laws.specs.Tests.{_below_}
 use Rattle.laws.proofs.Tests.{all-ext}
 use Rattle.laws.proofs.Sections.{section-at}
 use Rattle.paper.specs.Scales.{billion}
 use Rattle.paper.specs.declared.Refusal.{Refusal}
 use Rattle.paper.specs.declared.Refusal.the-variants.{OverLimit}
-use Rattle.paper.specs.Refusals.{Checked, accepted, refused, _>>=_, _>>_, unless, refuseIf}
+use Rattle.paper.specs.Refusals.{Checked, accepted, refused, _>>=_, _>>_, unless}
 use Rattle.paper.specs.Records.{Record, flows, option, curve, currencies, currencyOf, bodyLength}
 use Rattle.paper.specs.Flow.{scenarios, shocked, adds, magnitude}
 use Rattle.paper.specs.Ledger.{SoFar}
 use Rattle.paper.specs.TurnedDown.{unknownKind, secondCurve, flowsOver, optionsOver, overLimit}
 use Rattle.paper.specs.Fields.{byte, currencyAt}
 use Rattle.paper.specs.Decode.{decodeCurve, decode}
-use Rattle.paper.specs.Book.{placed, admitted, recordAt}
+use Rattle.paper.specs.Book.{admitted, recordAt}
 use Rattle.paper.proofs.Checks.{known-of}
 use Rattle.paper.specs.Sound.{Between, Sound}
 use Rattle.paper.proofs.Ranges.{currency-known}

@@ -1,14 +1,13 @@
 -- The arrays of good records hold what a step relies on, and so do the parts of a currency.
-use Prim.Native.Nat.{ℕ, suc, _+_, _*_, _-_, _/_, _%_, _^_, _≤_, _<_}
-use mathlib.Core.Bool.{Bool, false}
+use Prim.Native.Nat.{ℕ, suc, _*_, _-_, _/_, _%_, _≤_, _<_}
+use mathlib.Core.Bool.{false}
 use mathlib.Core.List.{List}
 use mathlib.Core.Logic.{⊎-elim}
-use mathlib.Core.Path.{_≡_, refl, sym, ap, _∙_}
+use mathlib.Core.Path.{_≡_, sym, ap, _∙_}
 use native.Mathlib.Nat.{mul-le-mul-left}
 use native.Mathlib.Omega.{arith}
 use lib.IntN.{ℤ, pos, natAbs}
 use lib.ListN.{length, getD, replicate}
-use Rattle.laws.specs.Sums.{sum}
 use Rattle.laws.specs.Lists.{tabulate, section}
 use Rattle.laws.proofs.Tests.{lt-or-ge}
 use Rattle.laws.proofs.Sums.{sum-upto}
@@ -18,7 +17,7 @@ use Rattle.paper.specs.Scales.{billion}
 use Rattle.paper.specs.Ladder.{buckets}
 use Rattle.paper.specs.Flow.{scenarios, shocked}
 use Rattle.paper.specs.Records.{Record, currencies}
-use Rattle.paper.specs.Ledger.{sectionSize, cells, totals, soFar, used, curved, ledgerOf}
+use Rattle.paper.specs.Ledger.{sectionSize, cells, totals, used, curved, ledgerOf}
 use Rattle.paper.proofs.Limits.{net-limited, addOn-limited}
 use Rattle.paper.proofs.Walk.{Good}
 use Rattle.arrays.specs.declared.masks.Masks.{Masks}

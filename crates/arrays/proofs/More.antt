@@ -1,14 +1,13 @@
 -- The arrays of the records kept: with nothing kept, with one record more, and read back.
 use Prim.Native.Nat.{ℕ, suc, _+_, _*_, _-_, _/_, _%_, _≤_, _<_}
 use mathlib.Core.List.{List, [], _∷_, _++_}
-use mathlib.Core.Path.{_≡_, refl, sym, ap, _∙_}
+use mathlib.Core.Path.{_≡_, sym, ap, _∙_}
 use native.Mathlib.Nat.{add-zero, div-eq-of-lt, mul-add-div, mul-le-mul-left}
 use native.Mathlib.Omega.{arith}
 use lib.IntN.{ℤ, pos, natAbs, _+ℤ_, +ℤ-idr}
-use lib.ListN.{length, getD, replicate}
-use Rattle.laws.specs.Lists.{tabulate}
+use lib.ListN.{getD, replicate}
 use Rattle.laws.specs.Sums.{total, totalℤ}
-use Rattle.laws.proofs.Lists.{tabulate-length, tabulate-at, tabulate-ext, tabulate-const}
+use Rattle.laws.proofs.Lists.{tabulate-at, tabulate-ext, tabulate-const}
 use Rattle.paper.specs.Ladder.{buckets}
 use Rattle.paper.specs.Records.{Record, currencies, currencyOf}
 use Rattle.paper.specs.Flow.{scenarios, shocked, flow, adds, gives, magnitude}
@@ -16,7 +15,7 @@ use Rattle.paper.specs.Ledger.{sectionSize, cells, ofCurrency, ofCurrencyℤ, t
 use Rattle.paper.proofs.Limits.{ofCurrency-more, ofCurrencyℤ-more}
 use Rattle.arrays.specs.Rooms.{cellBy, addOnBy, sizeBy, optionSizeBy}
 use Rattle.arrays.specs.Slots.{plusℤ, withFlows, withRates, withSizes, withAddOns, withOptionSizes}
-use Rattle.arrays.specs.Arrays.{Arrays, byCurrency, arraysOf, partOf, putBack, inParts, withRecord}
+use Rattle.arrays.specs.Arrays.{Arrays, byCurrency, arraysOf, inParts, withRecord}
 use Rattle.arrays.proofs.Parts.{joinedPart, start-is, part-more}
 
 -- the ledger's rule, part by part

@@ -6,12 +6,12 @@ use mathlib.Core.Logic.{_⊎_, inl, inr}
 use mathlib.Core.Path.{_≡_, refl, sym, ap, _∙_}
 use native.Mathlib.Nat.{div-add-mod, mod-lt, div-eq-of-lt, mul-add-div, mul-le-mul-left}
 use native.Mathlib.Omega.{arith}
-use lib.ListN.{length, getD}
+use lib.ListN.{length}
 use borrow.Author.Tests.{eqb-true, eq-eqb, ne-eqb, le-leb, lt-leb, lt-ltb, le-ltb}
 use Rattle.laws.specs.Tests.{if_then_else_, _is_, _upTo_, _below_}
-use Rattle.laws.specs.Lists.{tabulate, joined, section, splice}
+use Rattle.laws.specs.Lists.{tabulate, joined}
 use Rattle.laws.proofs.Tests.{lt-or-ge}
-use Rattle.laws.proofs.Lists.{tabulate-length, tabulate-at, tabulate-ext}
+use Rattle.laws.proofs.Lists.{tabulate-length, tabulate-ext}
 use Rattle.laws.proofs.Joins.{joined-section, joined-tabulate}
 use Rattle.paper.specs.Records.{currencies}
 use Rattle.arrays.specs.Arrays.{byCurrency, partOf, putBack}

@@ -1,16 +1,16 @@
 -- The face: `assess`'s answer as a number and a place.
-use Prim.Native.Nat.{ℕ, zero, suc, _≤_}
+use Prim.Native.Nat.{ℕ, _≤_}
 use mathlib.Core.List.{List, [], _∷_}
-use mathlib.Core.Path.{_≡_, refl, sym, ap, _∙_}
+use mathlib.Core.Path.{_≡_, refl, ap, _∙_}
 use native.Mathlib.Omega.{arith}
 use lib.IntN.{ℤ}
-use lib.ListN.{length, set}
+use lib.ListN.{length}
 use Rattle.paper.specs.declared.Fault.{Fault}
 use Rattle.paper.specs.Refusals.{numberOf, Checked}
 use Rattle.paper.specs.Records.{Record}
 use Rattle.book.specs.declared.assess.Assessed.{Assessed}
 use Rattle.book.specs.declared.assess.Assessed.the-variants.{Reported, Refused}
-use Rattle.book.specs.Assessed.{Answer, told, Answers}
+use Rattle.book.specs.Assessed.{told, Answers}
 use Rattle.book.specs.Face.{numberIn, placeIn, withPlace, Faced}
 
 pub no-cell : (told-place : ℕ) (room : List ℕ) → length room ≤ 0 → withPlace told-place room ≡ room

@@ -1,18 +1,16 @@
 -- Demand 3 of what the report's room holds: cells beyond the report do not matter.
-use Prim.Native.Nat.{ℕ, suc, _+_, _*_, _-_, _≤_, _<_}
+use Prim.Native.Nat.{ℕ, _+_, _*_, _-_, _<_}
 use mathlib.Core.List.{List, _++_}
-use mathlib.Core.Path.{_≡_, refl, sym, ap, _∙_}
+use mathlib.Core.Path.{_≡_, sym, ap, _∙_}
 use native.Mathlib.Omega.{arith}
 use lib.IntN.{ℤ, pos}
-use lib.ListN.{length, getD, drop, List·getD-append, length-append}
-use Rattle.laws.specs.Lists.{tabulateFrom}
+use lib.ListN.{length, drop, List·getD-append, length-append}
 use Rattle.laws.proofs.Lists.{tabulateFrom-length}
-use Rattle.paper.specs.Refusals.{Checked, accepted}
+use Rattle.paper.specs.Refusals.{Checked}
 use Rattle.paper.specs.Records.{Record, currencies}
 use Rattle.paper.specs.Ledger.{Totals, totals, figures}
-use Rattle.paper.specs.Change.{change, tolerance}
 use Rattle.paper.specs.Verdict.{changesOf, reportFrom, reportOf}
-use Rattle.paper.specs.Book.{outcome, reportAfter}
+use Rattle.paper.specs.Book.{reportAfter}
 use Rattle.paper.specs.Demand3.{figure, Demand3}
 use Rattle.paper.proofs.Demand3.{accepted-true}
 use Rattle.book.specs.declared.assess.Assessed.{Assessed}

@@ -1,15 +1,12 @@
 -- Any two outcomes that the contracts of `assess` and its face permit are one.
-use Prim.Native.Nat.{ℕ, suc, _-_}
-use mathlib.Core.Bool.{Bool}
+use Prim.Native.Nat.{ℕ}
 use mathlib.Core.List.{List}
 use mathlib.Core.Path.{_≡_, refl, sym, ap, ap₂, _∙_}
 use native.Mathlib.Omega.{arith}
 use lib.IntN.{ℤ}
 use Rattle.paper.specs.declared.Refusal.{Refusal}
-use Rattle.laws.specs.Digits.{has}
-use Rattle.laws.proofs.Digits.{same-members}
 use Rattle.paper.specs.Refusals.{numberOf, Checked, accepted, refused}
-use Rattle.paper.specs.Records.{Record, currencies}
+use Rattle.paper.specs.Records.{Record}
 use Rattle.paper.specs.Ledger.{curved}
 use Rattle.paper.proofs.Numbers.{one-refusal}
 use Rattle.arrays.specs.Masks.{MaskOf}

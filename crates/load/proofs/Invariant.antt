@@ -1,15 +1,14 @@
 -- The walk's invariant, and what each way on or out makes of it.
-use Prim.Native.Nat.{ℕ, zero, suc, pred, _+_, _-_, _≤_, _<_}
+use Prim.Native.Nat.{ℕ, zero, suc, pred, _-_, _≤_, _<_}
 use mathlib.Core.List.{List, [], _∷_, _++_}
 use mathlib.Core.Path.{_≡_, refl, sym, ap, ap₂, _∙_}
 use native.Mathlib.Numerals.{sub-one}
 use native.Mathlib.Omega.{arith}
 use borrow.Author.Tests.{le-leb, lt-leb}
 use lib.ListN.{length}
-use Rattle.laws.specs.Tests.{if_then_else_, _upTo_}
 use Rattle.paper.specs.declared.Fault.{Fault}
 use Rattle.paper.specs.Refusals.{Checked, accepted, refused, _>>=_}
-use Rattle.paper.specs.Records.{Record, currencies, currencyOf}
+use Rattle.paper.specs.Records.{Record, currencies}
 use Rattle.paper.specs.Ledger.{SoFar, soFar, curved}
 use Rattle.paper.specs.Book.{recordAt, nextAt, walkFrom, walk}
 use Rattle.paper.proofs.Checks.{known-of}

@@ -1,12 +1,10 @@
 -- A currency's parts, lent and put back: what was taken into them is taken into the arrays.
-use Prim.Native.Nat.{ℕ, _+_, _*_, _-_, _≤_}
+use Prim.Native.Nat.{ℕ, _+_, _*_, _-_}
 use mathlib.Core.Bool.{Bool}
 use mathlib.Core.List.{List, _++_}
 use mathlib.Core.Path.{_≡_, refl, sym, ap, _∙_}
 use native.Mathlib.Omega.{arith}
-use lib.IntN.{ℤ}
 use lib.ListN.{take, drop}
-use Rattle.laws.specs.Lists.{section, splice}
 use Rattle.laws.proofs.Sections.{splice-same}
 use Rattle.paper.specs.Refusals.{Checked, accepted, refused}
 use Rattle.paper.specs.Flow.{scenarios, shocked}
@@ -14,7 +12,6 @@ use Rattle.paper.specs.Records.{Record, currencyOf, currencies}
 use Rattle.paper.specs.Ledger.{sectionSize}
 use Rattle.paper.specs.Fields.{currencyAt}
 use Rattle.paper.specs.Book.{admitted}
-use Rattle.paper.specs.Decode.{decode}
 use Rattle.paper.proofs.Checks.{Known, known-of, chain, unless-known}
 use Rattle.paper.proofs.KindTable.{first-field}
 use Rattle.arrays.specs.Masks.{curvedBy}

@@ -3,14 +3,14 @@ use Prim.Native.Nat.{ℕ, suc, _≤_, _<_}
 use mathlib.Core.List.{List}
 use mathlib.Core.Path.{_≡_, sym, ap, _∙_}
 use native.Mathlib.Omega.{arith}
-use borrow.Author.Tests.{le-leb, lt-leb}
-use Rattle.laws.specs.Tests.{_upTo_, first}
+use borrow.Author.Tests.{le-leb}
+use Rattle.laws.specs.Tests.{first}
 use Rattle.paper.specs.declared.Refusal.the-variants.{NoCurve}
 use Rattle.paper.specs.declared.Fault.{Fault}
-use Rattle.paper.specs.Refusals.{Checked, accepted, refused, _>>=_, unless}
+use Rattle.paper.specs.Refusals.{Checked, refused, _>>=_, unless}
 use Rattle.paper.specs.Records.{Record, currencies}
 use Rattle.paper.specs.TurnedDown.{lacksCurve}
-use Rattle.paper.specs.Book.{walk, covered}
+use Rattle.paper.specs.Book.{covered}
 use Rattle.arrays.specs.declared.masks.Masks.{Masks}
 use Rattle.arrays.specs.Masks.{lowestMissing}
 use Rattle.arrays.specs.Arrays.{Arrays}
@@ -18,7 +18,7 @@ use Rattle.arrays.proofs.Sets.{MasksOf, missing-found, missing-none}
 use Rattle.load.specs.declared.walk.Walked.the-variants as walked
 use Rattle.load.specs.declared.Loaded.the-variants as loaded
 use Rattle.load.specs.Walk.{AllKept, Walks}
-use Rattle.load.specs.Load.{ofRecords, AllLoaded, Loads}
+use Rattle.load.specs.Load.{ofRecords, Loads}
 
 kept-once : {m n : ℕ} → loaded.Kept m ≡ loaded.Kept n → m ≡ n
 kept-once e = cc

@@ -9,7 +9,7 @@ use Rattle.laws.specs.Sums.{sum, total}
 use Rattle.laws.specs.Nearest.{nearest}
 use Rattle.laws.specs.Lists.{tabulateFrom, tabulate}
 use Rattle.laws.specs.Series.{factorial}
-use Rattle.paper.specs.Ladder.{Term, notAfter, upperEnds, bucketOf, midpoints, midpoint}
+use Rattle.paper.specs.Ladder.{notAfter, upperEnds, bucketOf, midpoints, midpoint}
 use Rattle.paper.specs.Series.{under, seriesTerm, over}
 use Rattle.paper.specs.Factor.{entry, digit, afterDigits, factor}
 use Rattle.paper.specs.Behaviour.{prepaymentMultipliers, withdrawalMultipliers, behaviouralRate, prepaymentRate, withdrawalRate, paid, prepaid, interest, outstandingAt, scheduledAt, paidAt, prepaidAt, interestAt, loanFlow, moved, termDepositFlow}

@@ -1,6 +1,6 @@
 -- Bodies of each kind and what they are, or the refusal and the field's place in the record: one table with a single claim.
 use Prim.Native.Nat.{ℕ, _-_}
-use mathlib.Core.Bool.{Bool, true, false}
+use mathlib.Core.Bool.{true, false}
 use mathlib.Core.Path.{_≡_, refl}
 use mathlib.Core.List.{List, [], _∷_, _++_, map}
 use lib.IntN.{pos, negsuc}
@@ -10,10 +10,10 @@ use Rattle.laws.specs.Sums.{sum, total}
 use Rattle.laws.specs.Nearest.{nearest, nearestℤ}
 use Rattle.laws.specs.Series.{factorial}
 use Rattle.paper.specs.declared.Refusal.the-variants.{BadCurrency, BadSide, BadTerm, TooLarge, BadShare, BadCategory, CoreAboveCap, CoreTooLong, InterestAlone, SecondCurve, OutOfRange, OverLimit}
-use Rattle.paper.specs.Ladder.{Term, midpoints}
+use Rattle.paper.specs.Ladder.{midpoints}
 use Rattle.paper.specs.Refusals.{Checked, accepted, refused, _>>=_, _>>_, unless}
 use Rattle.paper.specs.Series.{under, seriesTerm, over}
-use Rattle.paper.specs.Curve.{Curve, Shocks, shortShare, rateChanges, shockedRate}
+use Rattle.paper.specs.Curve.{shortShare, rateChanges, shockedRate}
 use Rattle.paper.specs.Records.{Record, flows, single, coupons, floating, deposit, loan, termDeposit, option, curve, currencies}
 use Rattle.paper.specs.Behaviour.{weighedCore, scheduledAt}
 use Rattle.paper.specs.TurnedDown.{badCurrency, badSide, badMonths, badDays, badPeriod, badCount, badAmount, badOption, badShare, badCategory, coreAboveCap, coreTooLong, interestAlone, secondCurve, badRate, badShock, badShocked, scheduleOver}

@@ -1,5 +1,5 @@
 -- Kinds 4 and 6: the flows of a deposit add up to its total, those of a term deposit to its amounts, under every scenario.
-use Prim.Native.Nat.{ℕ, suc, _+_, _*_, _-_, _/_, _≤_, _<_, min}
+use Prim.Native.Nat.{ℕ, _+_, _-_, _≤_}
 use mathlib.Core.List.{List}
 use mathlib.Core.Path.{_≡_}
 use native.Mathlib.Nat.{mul-le-mul-left}

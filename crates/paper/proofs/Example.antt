@@ -10,10 +10,10 @@ use Rattle.laws.specs.Sums.{sum, sumℤ, total, totalℤ, some, greatest}
 use Rattle.laws.specs.Nearest.{nearest, nearestℤ, roundedUp}
 use Rattle.laws.specs.Lists.{tabulateFrom}
 use Rattle.laws.specs.Series.{factorial}
-use Rattle.paper.specs.Ladder.{Term, notAfter, upperEnds, bucketOf, midpoints}
-use Rattle.paper.specs.Refusals.{Checked, accepted, numberOf, _>>=_, _>>_, unless}
+use Rattle.paper.specs.Ladder.{notAfter, upperEnds, bucketOf, midpoints}
+use Rattle.paper.specs.Refusals.{accepted, _>>=_, _>>_, unless}
 use Rattle.paper.specs.Series.{under, seriesTerm, over}
-use Rattle.paper.specs.Curve.{Curve, Shocks, shortShare, rateChanges, shockedRate}
+use Rattle.paper.specs.Curve.{shortShare, rateChanges, shockedRate}
 use Rattle.paper.specs.Records.{Record, flows, single, curve, kinds, bodyLength, currencyOf, isCurve, currencies}
 use Rattle.paper.specs.Flow.{sided, due, flowOf, flow, adds, gives, magnitude}
 use Rattle.paper.specs.Ledger.{ofCurrency, ofCurrencyℤ, totals, used, curved}

@@ -5,14 +5,12 @@ use mathlib.Core.Bool.{Bool, true, false, true≢false}
 use mathlib.Core.List.{List}
 use mathlib.Core.Path.{_≡_, refl, sym, ap, _∙_}
 use lib.IntN.{pos}
-use lib.ListN.{length}
 use Rattle.paper.specs.declared.Refusal.{Refusal}
-use Rattle.paper.specs.Refusals.{numberOf, Checked, accepted, refused, _>>=_}
+use Rattle.paper.specs.Refusals.{Checked, accepted, refused, _>>=_}
 use Rattle.paper.specs.Records.{Flows, Record, flows, currencyOf, isCurve, curveKind}
 use Rattle.paper.specs.Flow.{flow, adds, gives}
 use Rattle.paper.specs.TurnedDown.{unknownKind}
 use Rattle.paper.specs.Fields.{currencyAt}
-use Rattle.paper.specs.Book.{touchesNothing}
 use Rattle.paper.specs.Sound.{Between, SoundFlows, Sound}
 use Rattle.paper.proofs.Checks.{Checks, Known, Clears, known, gone, weaker, forget, chain}
 use Rattle.paper.proofs.Ranges.{currency-known}

@@ -3,11 +3,9 @@ use Prim.Native.Nat.{ℕ, zero, suc}
 use mathlib.Core.Bool.{Bool, true, false}
 use mathlib.Core.List.{List}
 use mathlib.Core.Path.{_≡_, refl, sym, ap, _∙_}
-use native.Mathlib.Omega.{arith}
 use borrow.Author.Tests.{eqb-true, eqb-false, ltb-false, ne-eqb}
 use Rattle.laws.specs.Tests.{if_then_else_, _is_}
 use Rattle.paper.specs.declared.Refusal.the-variants.{UnknownKind}
-use Rattle.paper.specs.Ladder.{buckets}
 use Rattle.paper.specs.Refusals.{numberOf, Checked, refused}
 use Rattle.paper.specs.Records.{Record, option, curve, kinds, bodyLength, currencyOf, isCurve, curveKind}
 use Rattle.paper.specs.Flow.{flow, adds, gives}
@@ -15,7 +13,7 @@ use Rattle.paper.specs.TurnedDown.{unknownKind, interestAlone, secondCur
 use Rattle.paper.specs.Decode.{decodeSingle, decodeCoupons, decodeFloating, decodeDeposit, decodeLoan, decodeTermDeposit, decodeOption, decodeCurve, decode}
 use Rattle.paper.specs.Book.{touchesNothing}
 use Rattle.paper.specs.Sound.{SoundFlows, Sound}
-use Rattle.paper.proofs.Checks.{Checks, Clears, known, chain, tested, each-known}
+use Rattle.paper.proofs.Checks.{known, chain, tested, each-known}
 use Rattle.paper.proofs.Ranges.{side-known, months-known, days-known, period-known, count-known, amount-known, option-known, share-known, category-known, shock-known, amounts-known, rates-known, core-within, none-bad, shocked-ranged}
 use Rattle.paper.proofs.KindLaws.{FlowsOnly, AddOnOnly, CurveOnly, Kind, begins, flows-read, FirstField, flows-kind, add-on-kind, curve-kind, no-kind}
 

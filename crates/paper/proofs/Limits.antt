@@ -1,17 +1,17 @@
 -- Sums over the records of a currency: one record more; net flows are within the gross ones; admitted records keep both sums of 14 at or
 -- below a billion.
-use Prim.Native.Nat.{ℕ, suc, _+_, _≤_, _<_}
-use mathlib.Core.Bool.{Bool, true, false, not, _&&_}
+use Prim.Native.Nat.{ℕ, _+_, _≤_, _<_}
+use mathlib.Core.Bool.{Bool, true, false, not}
 use mathlib.Core.List.{List, [], _∷_, _++_}
-use mathlib.Core.Path.{_≡_, refl, sym, ap, _∙_}
-use native.Mathlib.Nat.{le-refl, le-trans}
+use mathlib.Core.Path.{_≡_, refl, _∙_}
+use native.Mathlib.Nat.{le-trans}
 use native.Mathlib.Omega.{arith}
 use lib.IntN.{ℤ, pos, natAbs, _+ℤ_}
 use borrow.Author.Tests.{eqb-true, ltb-false, not-true, not-false}
 use Rattle.laws.specs.Tests.{if_then_else_, _is_, all}
-use Rattle.laws.specs.Sums.{sum, total, totalℤ}
+use Rattle.laws.specs.Sums.{sum, total}
 use Rattle.laws.proofs.Tests.{and-true, all-at}
-use Rattle.laws.proofs.Sums.{sum-le, sum-ext, sum-nil}
+use Rattle.laws.proofs.Sums.{sum-le, sum-nil}
 use Rattle.laws.proofs.Totals.{total-more, totalℤ-more, total-ext, abs-total, sum-total}
 use Rattle.paper.specs.Scales.{billion}
 use Rattle.paper.specs.Ladder.{buckets}

@@ -1,5 +1,5 @@
 -- A record's magnitude in one scenario, kind by kind, as refusal 14 counts it: gross, whatever the side.
-use Prim.Native.Nat.{ℕ, zero, suc, _+_, _*_, _-_, _≤_, _<_}
+use Prim.Native.Nat.{ℕ, zero, suc, _+_, _*_, _-_, _≤_}
 use mathlib.Core.Bool.{Bool, true, false}
 use mathlib.Core.List.{List}
 use mathlib.Core.Path.{_≡_, refl, sym, ap, _∙_}
@@ -16,7 +16,7 @@ use Rattle.paper.specs.Curve.{Curve}
 use Rattle.paper.specs.Records.{Flows, coupons, deposit, loan, termDeposit, flows, option, curve}
 use Rattle.paper.specs.Behaviour.{depositFlow, prepaymentRate, withdrawalRate, paidAt, prepaidAt, interestAt, loanFlow, termDepositFlow}
 use Rattle.paper.specs.Flow.{sided, due, couponsDue, flowOf, flow, magnitude}
-use Rattle.paper.proofs.Buckets.{InBucket, in-bucket}
+use Rattle.paper.proofs.Buckets.{in-bucket}
 use Rattle.paper.proofs.Deposits.{deposit-adds-up, term-deposit-adds-up}
 use Rattle.paper.proofs.Loan.{loan-returns, interest-at-most}
 use borrow.Author.Tests.{eq-eqb, ne-eqb}

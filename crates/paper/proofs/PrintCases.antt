@@ -1,8 +1,6 @@
 -- The worked example's lines, byte for byte, and a refusal's line.
-use Prim.Native.Nat.{ℕ}
-use mathlib.Core.Bool.{Bool}
 use mathlib.Core.Path.{_≡_, refl}
-use mathlib.Core.List.{List, [], _∷_, _++_}
+use mathlib.Core.List.{[], _∷_, _++_}
 use Rattle.laws.specs.Tests.{_is_}
 use Rattle.laws.specs.Lists.{tabulateFrom}
 use Rattle.paper.specs.Records.{currencies}

@@ -1,16 +1,14 @@
 -- The report read number by number.
-use Prim.Native.Nat.{ℕ, zero, suc, _+_, _*_, _-_, _≤_, _<_}
+use Prim.Native.Nat.{ℕ, _+_, _*_, _-_, _≤_}
 use mathlib.Core.List.{List, [], _∷_, _++_, append-assoc}
-use mathlib.Core.Path.{_≡_, refl, sym, ap, _∙_}
+use mathlib.Core.Path.{_≡_, sym, ap, _∙_}
 use native.Mathlib.Omega.{arith}
 use lib.IntN.{ℤ, pos}
 use lib.ListN.{length, getD, List·getD-append}
 use lib.Seq.{getD-append-add}
 use Rattle.laws.specs.Lists.{tabulateFrom}
 use Rattle.laws.proofs.Lists.{tabulate-length, tabulateFrom-length, tabulateFrom-at}
-use Rattle.paper.specs.Ledger.{Totals}
-use Rattle.paper.specs.Change.{change, tolerance}
-use Rattle.paper.specs.Verdict.{scenarioSum, measure, worst, totalTolerance, verdict, verdictNumber, changesOf, changeAt, listed, reportFrom, reportOf, sumAt, measureAt, worstAt, toleranceAt, verdictAt}
+use Rattle.paper.specs.Verdict.{scenarioSum, measure, worst, verdict, verdictNumber, changesOf, changeAt, listed, reportFrom, sumAt, measureAt, worstAt, toleranceAt, verdictAt}
 use Rattle.paper.proofs.ReportList.{change-listed, sum-listed, measure-listed, worst-listed}
 
 -- a number past the first of two lists

@@ -1,5 +1,5 @@
 -- The rules from changes to the verdict, the tolerance and the roundings, at numbers worked by hand: one table with a single claim.
-use Prim.Native.Nat.{ℕ, _-_, _*_}
+use Prim.Native.Nat.{ℕ, _-_}
 use mathlib.Core.Path.{_≡_, refl}
 use mathlib.Core.List.{List, [], _∷_, map}
 use lib.IntN.{ℤ, pos, negsuc, negℤ}
@@ -12,7 +12,7 @@ use Rattle.paper.specs.Scales.{billion}
 use Rattle.laws.specs.Series.{factorial}
 use Rattle.paper.specs.Ladder.{midpoints}
 use Rattle.paper.specs.Series.{under, seriesTerm, over}
-use Rattle.paper.specs.Curve.{Shocks, shortShare, rateChanges}
+use Rattle.paper.specs.Curve.{shortShare, rateChanges}
 use Rattle.paper.specs.Records.{currencies}
 use Rattle.paper.specs.Change.{toleranceOf}
 use Rattle.paper.specs.Verdict.{scenarioSum, measure, worst, verdict, verdictNumber}

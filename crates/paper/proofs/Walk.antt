@@ -1,6 +1,6 @@
 -- What is known of the records of a book that is walked to its end.
-use Prim.Native.Nat.{ℕ, zero, suc, _+_, _<_}
-use mathlib.Core.Bool.{Bool, true, false, not, _&&_, _||_}
+use Prim.Native.Nat.{ℕ, zero, suc, _<_}
+use mathlib.Core.Bool.{Bool, true, false, _&&_, _||_}
 use mathlib.Core.List.{List, [], _∷_, _++_}
 use mathlib.Core.Path.{_≡_, refl, sym, ap, _∙_}
 use native.Mathlib.Omega.{arith}
@@ -8,21 +8,20 @@ use lib.IntN.{ℤ, pos, _+ℤ_, +ℤ-idl, +ℤ-idr}
 use lib.ListN.{length, take, drop}
 use borrow.Author.Tests.{eqb-true}
 use Rattle.laws.specs.Tests.{if_then_else_, _is_, _upTo_}
-use Rattle.laws.specs.Sums.{total, totalℤ, some}
+use Rattle.laws.specs.Sums.{totalℤ}
 use Rattle.laws.proofs.Tests.{or-false}
 use Rattle.laws.proofs.Totals.{some-more}
 use Rattle.paper.specs.Ladder.{buckets}
-use Rattle.paper.specs.Refusals.{numberOf, Checked, _>>=_}
+use Rattle.paper.specs.Refusals.{numberOf, _>>=_}
 use Rattle.paper.specs.Curve.{shockedRate}
 use Rattle.paper.specs.Records.{Record, flows, option, curve, currencyOf, isCurve, bodyLength}
 use Rattle.paper.specs.Flow.{gives}
 use Rattle.paper.specs.Ledger.{ofCurrencyℤ, totals, soFar, curved}
 use Rattle.paper.specs.TurnedDown.{overLimit}
 use Rattle.paper.specs.Fields.{byte}
-use Rattle.paper.specs.Decode.{decode}
 use Rattle.paper.specs.Book.{admitted, recordAt, nextAt, walkFrom, walk, covered, outcome, touchesNothing}
-use Rattle.paper.proofs.Checks.{Checks, Known, Clears, known, gone, forget, chain, tested, unless-known, either, placed-known}
-use Rattle.paper.specs.Sound.{Ranged, Sound, SoundCurve}
+use Rattle.paper.proofs.Checks.{Checks, Known, Clears, known, forget, chain, tested, unless-known, either, placed-known}
+use Rattle.paper.specs.Sound.{Ranged, Sound}
 use Rattle.paper.proofs.KindTable.{first-field}
 use Rattle.paper.proofs.Limits.{ofCurrencyℤ-more, Limited, limited-none, limited-more}
 

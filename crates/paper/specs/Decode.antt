@@ -1,12 +1,12 @@
 -- The body of each kind: fields as laid out, first refusal first; then 9, 10, 11 and the record's own limb of 14.
 use Prim.Native.Nat.{ℕ, suc, _+_, _*_}
-use mathlib.Core.Bool.{Bool, not}
+use mathlib.Core.Bool.{Bool}
 use mathlib.Core.List.{List}
 use Rattle.laws.specs.Tests.{if_then_else_, _is_, _below_, first}
 use Rattle.paper.specs.declared.Refusal.the-variants.{UnknownKind, CoreAboveCap, CoreTooLong, InterestAlone, SecondCurve, OutOfRange, OverLimit}
-use Rattle.paper.specs.Ladder.{buckets, Term}
-use Rattle.paper.specs.Refusals.{Checked, accepted, refused, _>>=_, _>>_, unless, refuseIf}
-use Rattle.paper.specs.Curve.{Shocks, Curve}
+use Rattle.paper.specs.Ladder.{buckets}
+use Rattle.paper.specs.Refusals.{Checked, accepted, refused, _>>=_, _>>_, refuseIf}
+use Rattle.paper.specs.Curve.{Curve}
 use Rattle.paper.specs.Records.{Record, flows, option, curve, single, coupons, floating, deposit, loan, termDeposit}
 use Rattle.paper.specs.TurnedDown.{coreAboveCap, coreTooLong, interestAlone, secondCurve, badShocked, scheduleOver}
 use Rattle.paper.specs.Fields.{currencyAt, sideAt, monthsAt, daysAt, periodAt, countAt, amountAt, optionAt, shareAt, categoryAt, rateAt, shockAt, each}

@@ -1,6 +1,6 @@
 -- Demand 3: against exact arithmetic each reported number lies within its stated tolerance, so "over" and "within" are said only where true,
 -- and "close" exactly where the tolerance reaches the line.
-use Prim.Native.Nat.{ℕ, suc, _+_, _*_, _≤_}
+use Prim.Native.Nat.{ℕ, _*_, _≤_}
 use mathlib.Core.List.{List}
 use mathlib.Core.Logic.{_↔_}
 use mathlib.Core.Path.{_≡_}

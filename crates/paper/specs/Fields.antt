@@ -8,7 +8,6 @@ use lib.ListN.{getD}
 use Rattle.laws.specs.Tests.{if_then_else_, _below_}
 use Rattle.paper.specs.declared.Refusal.{Refusal}
 use Rattle.paper.specs.declared.Refusal.the-variants.{BadCurrency, BadSide, BadTerm, TooLarge, BadShare, BadCategory, OutOfRange}
-use Rattle.paper.specs.Ladder.{Term}
 use Rattle.paper.specs.Refusals.{Checked, accepted, _>>=_, unless}
 use Rattle.paper.specs.TurnedDown.{badCurrency, badSide, badMonths, badDays, badPeriod, badCount, badAmount, badOption, badShare, badCategory, badRate, badShock}
 

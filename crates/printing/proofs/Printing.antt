@@ -1,7 +1,7 @@
 -- What is written is what the paper prints, way out by way out.
 use Prim.Native.Nat.{ℕ, zero, suc, _≤_, _<_}
 use mathlib.Core.Bool.{Bool}
-use mathlib.Core.List.{List, [], _∷_, _++_, append-nil}
+use mathlib.Core.List.{List, [], _++_, append-nil}
 use mathlib.Core.Path.{_≡_, refl, sym, ap, ap₂, _∙_}
 use native.Mathlib.Omega.{arith}
 use borrow.Author.Tests.{lt-ltb, le-ltb}
@@ -9,7 +9,6 @@ use lib.IntN.{ℤ}
 use lib.ListN.{length, drop, drop-of-length-le}
 use Rattle.laws.specs.Tests.{if_then_else_}
 use Rattle.paper.specs.declared.Fault.{Fault}
-use Rattle.paper.specs.declared.Refusal.the-variants.{BadCapital, BookTooLong}
 use Rattle.paper.specs.Refusals.{numberOf, Checked, accepted, refused}
 use Rattle.paper.specs.Records.{Record, currencies}
 use Rattle.paper.specs.Ledger.{totals, curved, cells, figures}
@@ -17,7 +16,7 @@ use Rattle.paper.specs.Verdict.{reportOf}
 use Rattle.paper.specs.Book.{outcome, reportAfter}
 use Rattle.printing.specs.BookText.{bookText}
 use Rattle.paper.specs.Program.{capitalIn, programOutcome, changesLine, changesLines, reportText, refusalText, textOf, printed}
-use Rattle.arrays.specs.Masks.{curvedBy, MaskOf}
+use Rattle.arrays.specs.Masks.{curvedBy}
 use Rattle.book.specs.declared.assess.Assessed.{Assessed}
 use Rattle.book.specs.declared.assess.Assessed.the-variants.{Reported, Refused}
 use Rattle.book.specs.Assessed.{told, answerOf, Answers, Assesses}

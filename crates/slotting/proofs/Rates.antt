@@ -1,5 +1,5 @@
 -- Kind 8: the nineteen base rates are those of the body, and the part, nil before, holds the rates of the seven scenarios.
-use Prim.Native.Nat.{ℕ, suc, _/_, _%_, _≤_}
+use Prim.Native.Nat.{ℕ, _/_, _%_, _≤_}
 use mathlib.Core.Bool.{Bool, false}
 use mathlib.Core.List.{List, append-nil}
 use mathlib.Core.Path.{_≡_, refl, sym, ap, _∙_}
@@ -7,7 +7,6 @@ use native.Mathlib.Omega.{arith}
 use lib.IntN.{ℤ, pos, _+ℤ_, +ℤ-idl}
 use lib.ListN.{length, getD, replicate, length-replicate, getD-replicate, drop-of-length-le}
 use lib.Seq.{take-all}
-use Rattle.laws.specs.Tests.{first}
 use Rattle.laws.specs.Lists.{tabulate, joined}
 use Rattle.laws.proofs.Tests.{none-first}
 use Rattle.laws.proofs.Lists.{tabulate-length, tabulate-ext}

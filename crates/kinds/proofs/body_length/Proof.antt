@@ -1,8 +1,8 @@
 -- `body_length`: the rows of the table of kinds, and none.
-use mathlib.Core.Path.{sym, ap, _∙_}
+use mathlib.Core.Path.{sym}
 use mathlib.Core.Bool.{false}
 use native.Mathlib.Omega.{arith}
-use Rattle.paper.specs.Records.{bodyLength, currencies}
+use Rattle.paper.specs.Records.{currencies}
 use Rattle.paper.proofs.KindTable.{row-1, row-2, row-3, row-4, row-5, row-6, row-7, row-8, row-length, none-such}
 use Rattle.kinds.proofs.body_length.Statement.{statement}
 use Rattle.kinds.proofs.body_length.Tie as tie

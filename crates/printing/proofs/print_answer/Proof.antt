@@ -5,9 +5,6 @@ use mathlib.Core.Path.{ap, _∙_}
 use native.Mathlib.Omega.{arith}
 use borrow.Rule.Slice.PartAt.{part-to-end}
 use lib.ListN.{drop}
-use Rattle.paper.specs.Records.{currencies}
-use Rattle.paper.specs.Ledger.{cells, figures}
-use Rattle.paper.specs.Book.{outcome}
 use Rattle.printing.specs.BookText.{bookText}
 use borrow.Author.Needs.{needs}
 use Rattle.printing.proofs.Printing.{stands-as, long-input, short-input, whole-input}

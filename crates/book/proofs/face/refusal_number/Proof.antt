@@ -1,5 +1,4 @@
 -- `refusal_number`: the numbers of 01.
-use Prim.Native.Nat.{ℕ}
 use mathlib.Core.Path.{_≡_, sym, ap}
 use borrow.Author.Needs.{needs}
 use Rattle.paper.specs.declared.Refusal.{Refusal}

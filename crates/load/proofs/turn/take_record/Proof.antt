@@ -13,7 +13,6 @@ use Rattle.paper.proofs.Checks.{known-of}
 use Rattle.paper.proofs.Ranges.{currency-known}
 use Rattle.arrays.specs.Masks.{markedBy}
 use Rattle.fields.proofs.Reading.{value, bad}
-use Rattle.load.specs.Step.{faultAt}
 use Rattle.load.proofs.TurnLaws.{known-long, curves-hold, stepped-bad, stepped-refused, stepped-done}
 use Rattle.load.proofs.turn.take_record.Statement.{statement}
 use Rattle.load.proofs.turn.take_record.Tie as tie

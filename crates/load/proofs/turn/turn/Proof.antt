@@ -1,6 +1,5 @@
 -- `turn`: the four answers of the reader.
-use Prim.Native.Nat.{_-_, _≤_}
-use mathlib.Core.Path.{_≡_, sym, _∙_}
+use mathlib.Core.Path.{sym, _∙_}
 use borrow.Author.Needs.{needs}
 use Rattle.load.proofs.TurnLaws.{turn-end, turn-unknown, turn-cut, turn-record, InBook, in-book}
 use Rattle.load.proofs.turn.turn.Statement.{statement}

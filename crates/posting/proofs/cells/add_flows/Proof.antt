@@ -1,5 +1,5 @@
 -- Each cell passed has its own flow; the others are as they were.
-use Prim.Native.Nat.{_+_, _-_, _≤_}
+use Prim.Native.Nat.{_-_, _≤_}
 use mathlib.Core.Path.{_≡_}
 use lib.IntN.{pos, _+ℤ_, +ℤ-idr}
 use lib.ListN.{length, getD}
