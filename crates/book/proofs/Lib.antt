@@ -1,6 +1,5 @@
--- the ways out of `assess`, and its face
+-- the ways out of `assess`
 pub mod Outcome
-pub mod FaceLaws
 -- what `assess` promises
 pub mod Truth
 pub mod Unique

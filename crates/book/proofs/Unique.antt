@@ -1,4 +1,4 @@
--- Any two outcomes that the contracts of `assess` and its face permit are one.
+-- Any two outcomes that the contract of `assess` permits are one.
 use Prim.Native.Nat.{ℕ}
 use mathlib.Core.List.{List}
 use mathlib.Core.Path.{_≡_, refl, sym, ap, ap₂, _∙_}
@@ -14,7 +14,6 @@ use Rattle.arrays.proofs.Sets.{one-mask}
 use Rattle.book.specs.declared.assess.Assessed.{Assessed}
 use Rattle.book.specs.declared.assess.Assessed.the-variants.{Reported, Refused}
 use Rattle.book.specs.Assessed.{told, answerOf, Assesses}
-use Rattle.book.specs.Face.{Faced}
 
 -- whatever the two masks are of, it is the same set
 one-answer : (o : Checked (List Record)) (a b : Assessed) → told a ≡ answerOf o → told b ≡ answerOf o
@@ -42,22 +41,4 @@ one-outcome {a = a} {b = b} p q = record {
   answers = one-answer _ a b (p .answers .says) (q .answers .says) (p .answers .curves-are) (q .answers .curves-are);
   reports = p .answers .report-is ∙ sym (q .answers .report-is);
   ledgers = p .answers .ledger-is ∙ sym (q .answers .ledger-is);
-}
-
--- ---- the face
-
-pub record SameFace (number number' : ℕ) (report report' ledger ledger' : List ℤ) (place place' : List ℕ) : Type 0 where
-  pub numbers : number ≡ number'
-  pub places : place ≡ place'
-  pub reports : report ≡ report'
-  pub ledgers : ledger ≡ ledger'
-
-pub one-face : {o : Checked (List Record)} {T : ℕ} {report ledger report₁ report₂ ledger₁ ledger₂ : List ℤ} {place place₁ place₂ : List ℕ} {m n : ℕ}
-    → Faced o T report ledger place m report₁ ledger₁ place₁ → Faced o T report ledger place n report₂ ledger₂ place₂
-    → SameFace m n report₁ report₂ ledger₁ ledger₂ place₁ place₂
-one-face p q = record {
-  numbers = p .number-is ∙ sym (q .number-is);
-  places = p .place-is ∙ sym (q .place-is);
-  reports = p .report-is ∙ sym (q .report-is);
-  ledgers = p .ledger-is ∙ sym (q .ledger-is);
 }

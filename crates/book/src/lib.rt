@@ -1,4 +1,4 @@
-// The entry function, and its face for other languages (01, "From flows to verdict", "Turned down").
+// The entry function, and the numbers of its refusals (01, "From flows to verdict", "Turned down").
 pub mod assess;
-pub mod face;
+pub mod refusal;
 mod rooms;

@@ -28,7 +28,7 @@ use Rattle.posting.specs.declared.Taken.{Taken}
 use Rattle.posting.specs.declared.Taken.the-variants.{Refused}
 use Rattle.posting.specs.Parts.{FlowParts}
 use Rattle.slotting.specs.Parts.{OptionParts, RateParts}
-use Rattle.slotting.specs.Answers.{into, flowsFit, FlowsTaken, optionsFit, OptionTaken, CurveTaken}
+use Rattle.posting.specs.Answers.{into, flowsFit, FlowsTaken, optionsFit, OptionTaken, CurveTaken}
 use Rattle.kinds.specs.Bodies.{enteredIn, BodyTaken}
 use Rattle.paper.proofs.KindTable.{Row, NoneOf, none-decoded}
 

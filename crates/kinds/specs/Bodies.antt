@@ -9,7 +9,7 @@ use Rattle.paper.specs.Book.{admitted}
 use Rattle.arrays.specs.Rooms.{soFarIn}
 use Rattle.arrays.specs.Arrays.{Arrays, inParts}
 use Rattle.posting.specs.declared.Taken.{Taken}
-use Rattle.slotting.specs.Answers.{takenOf}
+use Rattle.posting.specs.Answers.{takenOf}
 
 abbrev pub enteredIn : Checked Record → Arrays → Arrays
 enteredIn (accepted r) p = inParts r p

@@ -6,17 +6,17 @@ ghost use Rattle.arrays.specs.Arrays.{PartsHold};
 ghost use Rattle.arrays.specs.Lent.{lent, before, after};
 ghost use Rattle.record.specs.Answers.{Body};
 ghost use Rattle.kinds.specs.Bodies.{TakesBody};
+use behaviour::deposit::take_deposit;
+use behaviour::loan::take_loan;
+use behaviour::term_deposit::take_term_deposit;
 use paper::Fault;
 use paper::Refusal;
 use posting::Taken;
 use slotting::coupons::take_coupons;
 use slotting::curves::take_curve;
-use slotting::deposit::take_deposit;
 use slotting::floating::take_floating;
-use slotting::loan::take_loan;
 use slotting::option_add_on::take_option;
 use slotting::single::take_single;
-use slotting::term_deposit::take_term_deposit;
 
 // The bytes of a kind's body; 0 where there is no such kind. A table would be copied for every record; the compiler makes one of the `match`.
 pub fn body_length(kind: u8) -> usize

@@ -23,7 +23,7 @@ use Rattle.arrays.specs.Masks.{markedBy}
 use Rattle.arrays.specs.Arrays.{Arrays, Holding}
 use Rattle.posting.specs.declared.Taken.{Taken}
 use Rattle.posting.specs.declared.Taken.the-variants as taken
-use Rattle.slotting.specs.Answers.{takenOf}
+use Rattle.posting.specs.Answers.{takenOf}
 use Rattle.load.specs.declared.turn.Step.{Step}
 use Rattle.load.specs.declared.turn.Step.the-variants as step
 use Rattle.reader.specs.declared.Found.{Found}

@@ -15,7 +15,7 @@ use Rattle.arrays.specs.Masks.{marked}
 use Rattle.arrays.specs.Rooms.{soFarBy}
 use Rattle.arrays.specs.Arrays.{Arrays, withRecord}
 use Rattle.posting.specs.declared.Taken.{Taken}
-use Rattle.slotting.specs.Answers.{takenOf}
+use Rattle.posting.specs.Answers.{takenOf}
 use Rattle.load.specs.declared.turn.Step.{Step}
 use Rattle.load.specs.declared.turn.Step.the-variants.{On, Refused, End}
 

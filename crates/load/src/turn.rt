@@ -26,8 +26,8 @@ use posting::Taken;
 use reader::Found;
 use reader::found_at;
 
-// A record is taken, and the walk goes on at the next with these masks; or it is refused; or the book is at its end. The place stands between the masks: side by side
-// they are one word, to be packed and taken apart again at every record.
+// A record is taken: the currencies used then, the next place, the currencies with a curve then; or it is refused; or the book is at its end. The place stands between the
+// masks, because side by side they are one word, packed and taken apart again at every record.
 pub enum Step {
     On(u32, usize, u32),
     Refused(Fault),

@@ -4,3 +4,5 @@ pub mod Loops
 pub mod Limit
 -- plus or minus by the side, and a column
 pub mod Sides
+-- a record let in by 14, and one that is not
+pub mod Admission

@@ -1,7 +1,7 @@
 -- A currency's parts of the arrays, and what is left in them. 14 is tested first: what is over the limit changes nothing.
 use Prim.Native.Nat.{ℕ, suc, _+_, _*_, _/_, _%_, _<_, _≤_}
 use mathlib.Core.Bool.{Bool}
-use mathlib.Core.List.{List, [], _∷_}
+use mathlib.Core.List.{List}
 use mathlib.Core.Path.{_≡_}
 use lib.IntN.{ℤ, pos, natAbs}
 use lib.ListN.{length, getD}
@@ -47,10 +47,6 @@ pub record Admitted (more sums : List ℕ) (answer : Bool) (sums' : List ℕ) : 
 -- an amount in one bucket of every scenario, by the place in a section
 unfoldable pub column : ℕ → ℤ → ℕ → ℤ
 column bucket amount j = if bucket is suc (j % buckets) then amount else pos 0
-
--- kinds 5 and 6: the multipliers that there are (001, tables 5 and 6), that of the base first
-unfoldable pub threeMultipliers : List ℕ
-threeMultipliers = 10 ∷ 8 ∷ 12 ∷ []
 
 -- rows of nineteen flows one after another, the row that each scenario has, and the sum of each row
 pub record RowParts (rows which sums : List ℕ) : Type 0 where

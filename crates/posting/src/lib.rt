@@ -1,14 +1,12 @@
-// What the kinds have in common: 14 and the sums that it is tested on, and the writers of a section.
+// What the kinds have in common: their answer, 14 and the sums that it is tested on, and the writers of a section.
 ghost use mathlib.Core.Bool.{false};
 ghost use mathlib.Core.Path.{_≡_};
 ghost use Rattle.posting.specs.Parts.{answerOf};
 use paper::Fault;
 use paper::Refusal;
 
-pub mod amounts;
 pub mod cells;
 pub mod flows;
-pub mod rates;
 pub mod room;
 
 // One answer for every kind: the record is taken, or refused for a cause at a place.

@@ -8,7 +8,7 @@ ghost use Rattle.paper.specs.Program.{capitalIn, printed};
 ghost use Rattle.printing.specs.BookText.{bookText};
 use book::assess::Assessed;
 use book::assess::assess;
-use book::face::refusal_number;
+use book::refusal::refusal_number;
 use fields::bytes::four_at;
 use paper::CELLS;
 use paper::FIGURES;

@@ -26,7 +26,7 @@ use Rattle.curve.specs.Shocked.{shockedSection}
 use Rattle.fields.specs.Answers.{rateOf, ratesFrom, goodRates, ratesSet}
 use Rattle.fields.proofs.FieldLaws.{each-accepts}
 use Rattle.posting.specs.declared.Taken.the-variants.{Done, Refused}
-use Rattle.slotting.specs.Answers.{CurveTaken}
+use Rattle.posting.specs.Answers.{CurveTaken}
 use Rattle.slotting.specs.Parts.{RateParts}
 
 known-by : {A : Type 0} {P : A → Type 0} (m : Checked A) → ((a : A) → m ≡ accepted a → P a) → Known P m

@@ -11,7 +11,7 @@ ghost use Rattle.paper.specs.Flow.{due, couponsDue};
 ghost use Rattle.paper.specs.Decode.{decodeCoupons};
 ghost use Rattle.record.specs.Answers.{Body};
 ghost use Rattle.posting.specs.Parts.{FlowParts};
-ghost use Rattle.slotting.specs.Answers.{TakesFlows};
+ghost use Rattle.posting.specs.Answers.{TakesFlows};
 use ladder::bucket_of;
 use paper::BUCKETS;
 use posting::Taken;

@@ -2,7 +2,7 @@
 ghost use Rattle.paper.specs.Records.{currencies};
 ghost use Rattle.paper.specs.Decode.{decodeCurve};
 ghost use Rattle.record.specs.Answers.{Body};
-ghost use Rattle.slotting.specs.Answers.{CurveTaken};
+ghost use Rattle.posting.specs.Answers.{CurveTaken};
 ghost use Rattle.slotting.specs.Parts.{RateParts};
 use curve::fill_section;
 use fields::rates::rates_at;

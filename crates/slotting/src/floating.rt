@@ -3,7 +3,7 @@ ghost use Rattle.paper.specs.Records.{currencies};
 ghost use Rattle.paper.specs.Decode.{decodeFloating};
 ghost use Rattle.record.specs.Answers.{Body};
 ghost use Rattle.posting.specs.Parts.{FlowParts};
-ghost use Rattle.slotting.specs.Answers.{TakesFlows};
+ghost use Rattle.posting.specs.Answers.{TakesFlows};
 use crate::due::slot_due;
 use posting::Taken;
 use record::floating::DecodedFloating;

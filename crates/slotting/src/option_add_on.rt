@@ -12,7 +12,7 @@ ghost use Rattle.paper.specs.Decode.{decodeOption};
 ghost use Rattle.arrays.specs.Slots.{plusℤ};
 ghost use Rattle.record.specs.Answers.{Body};
 ghost use Rattle.posting.specs.Parts.{AtMostℤ};
-ghost use Rattle.slotting.specs.Answers.{TakesOption};
+ghost use Rattle.posting.specs.Answers.{TakesOption};
 ghost use Rattle.slotting.specs.Parts.{OptionParts};
 use ladder::Thousands;
 use paper::SHOCKED;

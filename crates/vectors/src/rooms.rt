@@ -2,7 +2,7 @@
 use crate::show::say;
 use book::assess::Assessed;
 use book::assess::assess;
-use book::face::refusal_number;
+use book::refusal::refusal_number;
 use paper::CELLS;
 use paper::FIGURES;
 use text::refusal::write_refusal;

@@ -6,7 +6,7 @@ use Rattle.paper.proofs.Magnitudes.{size-coupons}
 use Rattle.record.specs.Answers.{couponsOf, couponsRead}
 use Rattle.posting.specs.Parts.{trillion}
 use Rattle.posting.proofs.Loops.{row-long, row-small}
-use Rattle.slotting.proofs.Rows.{row-taken}
+use Rattle.posting.proofs.Admission.{row-taken}
 use Rattle.slotting.proofs.Schedule.{scheduled, scheduled-small, scheduled-flow, size-small}
 use mathlib.Core.Bool.{false}
 use mathlib.Core.List.{List}
@@ -18,7 +18,7 @@ use Rattle.paper.specs.Records.{flows, currencies}
 use Rattle.paper.specs.Sound.{SoundFlows}
 use Rattle.paper.proofs.KindTable.{coupons-kind}
 use Rattle.record.specs.declared.coupons.Coupons.{Coupons}
-use Rattle.slotting.proofs.Flows.{flows-refused, flows-sound}
+use Rattle.posting.proofs.Admission.{flows-refused, flows-sound}
 use Rattle.slotting.proofs.coupons.take_coupons.Statement.{statement}
 use Rattle.slotting.proofs.coupons.take_coupons.Tie as tie
 

@@ -9,7 +9,7 @@ use Rattle.posting.specs.Parts.{column, trillion}
 use Rattle.posting.proofs.Loops.{replicate-all}
 use Rattle.paper.proofs.Magnitudes.{abs-sided}
 use Rattle.posting.proofs.Limit.{entered, same-size}
-use Rattle.slotting.proofs.Flows.{due-column}
+use Rattle.posting.proofs.Admission.{due-column}
 use Rattle.slotting.proofs.due.slot_due.Statement.{statement}
 use Rattle.slotting.proofs.due.slot_due.Tie as tie
 

@@ -13,7 +13,7 @@ use Rattle.paper.specs.Flow.{flowOf}
 use Rattle.paper.specs.Sound.{SoundFlows}
 use Rattle.paper.proofs.KindTable.{floating-kind}
 use Rattle.record.specs.declared.floating.Floating.{Floating}
-use Rattle.slotting.proofs.Flows.{flows-refused, flows-sound, due-taken}
+use Rattle.posting.proofs.Admission.{flows-refused, flows-sound, due-taken}
 use Rattle.slotting.proofs.floating.take_floating.Statement.{statement}
 use Rattle.slotting.proofs.floating.take_floating.Tie as tie
 

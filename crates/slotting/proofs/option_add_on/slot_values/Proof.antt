@@ -10,7 +10,7 @@ use Rattle.laws.proofs.Lists.{tabulate-length}
 use Rattle.paper.specs.Flow.{shocked}
 use Rattle.posting.specs.Parts.{AtMost, trillion}
 use Rattle.posting.proofs.Loops.{tabulate-all}
-use Rattle.slotting.proofs.Flows.{option-taken}
+use Rattle.posting.proofs.Admission.{option-taken}
 use Rattle.slotting.proofs.Options.{option-sized, option-adds}
 use Rattle.slotting.proofs.option_add_on.slot_values.Statement.{statement}
 use Rattle.slotting.proofs.option_add_on.slot_values.Tie as tie

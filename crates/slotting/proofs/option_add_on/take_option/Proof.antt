@@ -14,7 +14,7 @@ use Rattle.paper.proofs.KindTable.{option-kind}
 use Rattle.record.specs.declared.option_add_on.OptionAddOn.{OptionAddOn}
 use Rattle.record.specs.Answers.{valuesOf, optionRead}
 use Rattle.posting.specs.Parts.{AtMostℤ}
-use Rattle.slotting.proofs.Flows.{option-refused}
+use Rattle.posting.proofs.Admission.{option-refused}
 use Rattle.slotting.proofs.Options.{values-small, values-back}
 use Rattle.slotting.proofs.option_add_on.take_option.Statement.{statement}
 use Rattle.slotting.proofs.option_add_on.take_option.Tie as tie

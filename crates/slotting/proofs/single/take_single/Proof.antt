@@ -13,7 +13,7 @@ use Rattle.paper.specs.Flow.{flowOf}
 use Rattle.paper.specs.Sound.{SoundFlows}
 use Rattle.paper.proofs.KindTable.{single-kind}
 use Rattle.record.specs.declared.single.Single.{Single}
-use Rattle.slotting.proofs.Flows.{flows-refused, flows-sound, due-taken}
+use Rattle.posting.proofs.Admission.{flows-refused, flows-sound, due-taken}
 use Rattle.slotting.proofs.single.take_single.Statement.{statement}
 use Rattle.slotting.proofs.single.take_single.Tie as tie
 

@@ -1,0 +1,105 @@
+-- Kind 5: one bucket's arithmetic, what the balances are bounded by, and the flows of a scenario.
+use Prim.Native.Nat.{ℕ, zero, suc, _+_, _-_, _≤_, _<_}
+use mathlib.Core.Bool.{Bool, false, _&&_}
+use mathlib.Core.List.{List}
+use mathlib.Core.Path.{_≡_, refl, sym, ap, _∙_}
+use native.Mathlib.Nat.{le-refl}
+use native.Mathlib.Omega.{arith}
+use lib.IntN.{pos}
+use lib.ListN.{length, getD}
+use borrow.Author.Tests.{lt-ltb, eqb-false}
+use Rattle.laws.specs.Tests.{_is_, _below_}
+use Rattle.laws.specs.Sums.{sum, sumOf}
+use Rattle.laws.proofs.Sums.{sum-add, sum-le, sum-mono, sum-upto}
+use Rattle.laws.proofs.Totals.{sum-getD, sum-drop}
+use Rattle.paper.specs.Scales.{billion}
+use Rattle.paper.specs.Ladder.{buckets}
+use Rattle.paper.specs.Records.{loan, flows}
+use Rattle.paper.specs.Behaviour.{prepaymentRate, paid, prepaid, interest, outstandingAt, scheduledAt, paidAt, prepaidAt, interestAt, loanFlow}
+use Rattle.paper.specs.Flow.{sided, flowOf, flow, magnitude}
+use Rattle.paper.specs.TurnedDown.{interestAlone}
+use Rattle.paper.proofs.Loan.{taken-so-far, on-schedule, interest-at-most}
+use Rattle.paper.specs.Sound.{SoundFlows}
+use Rattle.behaviour.specs.Rows.{SoundSchedule}
+use Rattle.behaviour.proofs.AmountRange.{amounts-small}
+
+-- where interest is due, something is scheduled
+pub not-alone : (scheduled remaining : ℕ) → (0 below scheduled && remaining is 0) ≡ false → 0 < scheduled → 0 < remaining
+not-alone scheduled remaining t h =
+    let none : remaining ≡ 0 → ⊥ = eqb-false remaining 0 (ap (λ (b : Bool). b && remaining is 0) (sym (lt-ltb 0 scheduled h)) ∙ t) in
+    omega arith
+
+module _ (rate : ℕ) (principals interests : List ℕ) where
+  -- ---- bounds
+
+  scheduled-within : (k : ℕ) → scheduledAt principals k ≤ sumOf principals
+  unfolding scheduledAt
+  scheduled-within zero = le-refl (sumOf principals)
+  scheduled-within (suc k) = omega (arith, scheduled-within k, sum-drop principals k)
+
+  -- flows so far are no more than all that is scheduled
+  pub loan-sum : (n : ℕ) → n ≤ buckets → length interests ≤ buckets → sum (loanFlow rate principals interests) n ≤ sumOf principals + sumOf interests
+  unfolding loanFlow
+  loan-sum n l few =
+      let rest : n + (buckets - n) ≡ buckets = omega arith in
+      omega (
+        arith,
+        sum-add (λ k. paidAt rate principals k + prepaidAt rate principals k) (interestAt rate principals interests) n,
+        taken-so-far rate principals n,
+        sum-le (interestAt rate principals interests) (λ k. getD interests k 0) n (λ k _. interest-at-most rate principals interests k),
+        rw rest at (sum-mono (λ k. getD interests k 0) n (buckets - n)),
+        sum-getD interests buckets few,
+      )
+
+  -- ---- bucket k + 1: its scheduled amounts, and the two balances before payment
+
+  pub record Before (k principal charge outstanding remaining : ℕ) : Type 0 where
+    pub principal-is : principal ≡ getD principals k 0
+    pub charge-is : charge ≡ getD interests k 0
+    pub outstanding-is : outstanding ≡ outstandingAt rate principals k
+    pub remaining-is : remaining ≡ scheduledAt principals k
+
+  module _ {k principal charge outstanding remaining : ℕ} (b : Before k principal charge outstanding remaining) where
+    pub flow-is : (flow : ℕ) → flow ≡ paid principal outstanding + prepaid rate principal outstanding + interest charge outstanding remaining
+        → flow ≡ loanFlow rate principals interests k
+    unfolding loanFlow paidAt prepaidAt interestAt
+    flow-is flow e = e ∙ rw (b .principal-is, b .charge-is, b .outstanding-is, b .remaining-is)
+
+    pub left-is : (left : ℕ) → left ≡ outstanding - paid principal outstanding - prepaid rate principal outstanding
+        → left ≡ outstandingAt rate principals (suc k)
+    unfolding outstandingAt
+    left-is left e = e ∙ rw (b .principal-is, b .outstanding-is)
+
+    pub rest-is : (principal ≤ remaining) × (remaining - principal ≡ scheduledAt principals (suc k))
+    unfolding scheduledAt
+    rest-is = (omega (arith, b .principal-is, b .remaining-is, sum-drop principals k), omega (arith, b .principal-is, b .remaining-is, sum-drop principals k))
+
+    pub balance-within : (outstanding ≤ remaining) × (remaining ≤ sumOf principals)
+    balance-within =
+        (omega (arith, b .outstanding-is, b .remaining-is, on-schedule rate principals k), omega (arith, b .remaining-is, scheduled-within k))
+
+    pub none-alone-here : interestAlone principals interests k ≡ false → (0 below charge && remaining is 0) ≡ false
+    unfolding interestAlone
+    none-alone-here t = rw (b .charge-is, b .remaining-is) t
+
+-- ---- the record's flows and magnitudes
+
+module _ (c share : ℕ) (principals interests : List ℕ) where
+  pub loan-flow : (i k : ℕ) → sided 1 (pos (loanFlow (prepaymentRate share i) principals interests k)) ≡ flow (flows c (loan share principals interests)) i k
+  unfolding sided flow flowOf
+  loan-flow i k = refl
+
+  pub loan-size : (i : ℕ) → sum (loanFlow (prepaymentRate share i) principals interests) buckets ≡ magnitude (flows c (loan share principals interests)) i
+  unfolding magnitude flow flowOf
+  loan-size i = refl
+
+-- each flow is within its scenario's sum, and that within what is scheduled
+pub loan-small : (principals interests : List ℕ) → length interests ≤ buckets → SoundSchedule principals interests → (rate : ℕ)
+    → (sum (loanFlow rate principals interests) buckets ≤ billion) × ((k : ℕ) → k < buckets → loanFlow rate principals interests k ≤ billion)
+loan-small principals interests few sound rate =
+    let all = loan-sum rate principals interests buckets (le-refl buckets) few in
+    (omega (arith, sound .all-small), λ k l. omega (arith, all, sum-upto (loanFlow rate principals interests) k buckets l, sound .all-small))
+
+pub schedule-of : (share : ℕ) (principals interests : List ℕ) → SoundFlows (loan share principals interests) → SoundSchedule principals interests
+unfolding SoundFlows
+schedule-of share principals interests h = record { principals-small = amounts-small (h .1); interests-small = amounts-small (h .2); none-alone = h .3; all-small = h .4 }

@@ -1,0 +1,116 @@
+-- `take_deposit`: refused by its decoder, or a row of core and rest entered.
+use Prim.Native.Nat.{ℕ}
+use Rattle.paper.specs.Ladder.{buckets}
+use Rattle.paper.specs.Behaviour.{depositFlow}
+use Rattle.paper.specs.Decode.{decodeDeposit}
+use Rattle.paper.proofs.Magnitudes.{size-deposit}
+use Rattle.fields.specs.Answers.{amountsFrom}
+use Rattle.record.specs.Answers.{depositOf, depositRead}
+use Rattle.posting.specs.Parts.{trillion}
+use Rattle.posting.proofs.Loops.{row-long, row-small}
+use Rattle.posting.proofs.Admission.{row-taken}
+use Rattle.behaviour.proofs.DepositRows.{core-small, core-flow}
+use mathlib.Core.Bool.{false}
+use mathlib.Core.List.{List}
+use mathlib.Core.Path.{_≡_, refl, sym, ap, _∙_}
+use native.Mathlib.Omega.{arith}
+use borrow.Author.Needs.{needs}
+use Rattle.paper.specs.Refusals.{accepted}
+use Rattle.paper.specs.Records.{flows, currencies}
+use Rattle.paper.specs.Sound.{SoundFlows}
+use Rattle.paper.proofs.KindTable.{deposit-kind}
+use Rattle.record.specs.declared.deposit.Deposit.{Deposit}
+use Rattle.posting.proofs.Admission.{flows-refused, flows-sound}
+use Rattle.behaviour.proofs.AmountRange.{amounts-few, amounts-small}
+use Rattle.behaviour.proofs.deposit.take_deposit.Statement.{statement}
+use Rattle.behaviour.proofs.deposit.take_deposit.Tie as tie
+
+-- what is known once the body has been read
+module _ (c : tie.After-known-told2) where
+  abbrev body : List ℕ
+  body = c .before .before .before .before .before .before .args .body .now
+
+  abbrev fields : Deposit
+  fields = c .before .deposit .given .0 .0
+
+  read : decodeDeposit currencies body ≡ accepted (flows (fields .currency) (depositOf body fields))
+  unfolding depositRead
+  read = sym (c .before .before .before .decode-deposit .ensures) ∙ ap (depositRead body) (c .before .deposit .given .1)
+
+  sound : SoundFlows (depositOf body fields)
+  sound = flows-sound (λ _. false) (deposit-kind currencies (λ _. false) body .sound) read
+
+decode-deposit-requires : tie.Need-decode-deposit-requires
+decode-deposit-requires c κs = c .before .before .pre .0
+
+enum-known-fault : tie.Need-enum-known-fault
+enum-known-fault c = search needs
+
+enum-known-deposit : tie.Need-enum-known-deposit
+enum-known-deposit c = search needs
+
+cast-total : tie.Need-cast-total
+cast-total c = search needs
+
+slice-aggregate-core-row : tie.Need-slice-aggregate-core-row
+slice-aggregate-core-row c = search needs
+
+core-row-requires : tie.Need-core-row-requires
+unfolding SoundFlows
+core-row-requires c κs =
+    let w = c .before .before in
+    ((w .before .before .before .before .before .before .pre .0 .long, sound w .1 .to, refl), (amounts-small (sound w .2), sound w .3))
+
+slice-aggregate-enter-row : tie.Need-slice-aggregate-enter-row
+slice-aggregate-enter-row c = search needs
+
+enter-row-requires : tie.Need-enter-row-requires
+unfolding SoundFlows
+enter-row-requires c κs =
+    let w = c .before .before .before .before .before .before .before in
+    let whole = fields w .total in
+    let core = amountsFrom (body w) 6 in
+    let filled = c .before .before .before .before .core-row .ensures in (
+      (
+        row-long (depositFlow whole core) buckets filled,
+        row-small (depositFlow whole core) buckets trillion filled (λ k l. omega (arith, core-small whole core (amounts-few (body w) 6) (sound w .3) k l, sound w .1 .to)),
+        omega (arith, sound w .1 .to),
+      ),
+      w .before .before .before .before .before .before .pre .1,
+    )
+
+returns : tie.Need-returns
+unfolding depositRead
+returns c = flows-refused (c .before .fault .given .0 .0) (sym (c .before .before .before .decode-deposit .ensures) ∙ ap (depositRead _) (c .before .fault .given .1)) _ _
+
+same-length : tie.Need-same-length
+same-length c = search needs
+
+same-length-2 : tie.Need-same-length-2
+same-length-2 c = search needs
+
+returns-2 : tie.Need-returns-2
+unfolding SoundFlows
+returns-2 c =
+    let w = c .before .before .before .before .before .before .before .before .before .before .before in
+    let d = fields w in
+    let core = amountsFrom (body w) 6 in
+    row-taken _ (read w) 2 (w .before .before .before .before .before .before .pre .1) (depositFlow (d .total) core) (d .total) (c .before .before .before .before .before .before .before .before .core-row .ensures) (core-flow (d .currency) (d .category) (d .total) core)
+    (λ i. size-deposit (d .currency) i (d .category) (d .total) core (amounts-few (body w) 6) (sound w .3)) (c .before .before .before .enter-row .ensures)
+
+pub take-deposit-spec : {M : Type 1} → statement M
+take-deposit-spec =
+    tie.close
+    (tie.spec
+    decode-deposit-requires
+    enum-known-fault
+    enum-known-deposit
+    cast-total
+    slice-aggregate-core-row
+    core-row-requires
+    slice-aggregate-enter-row
+    enter-row-requires
+    returns
+    same-length
+    same-length-2
+    returns-2)

@@ -1,0 +1,148 @@
+-- `take_term_deposit`: refused by its decoder, or the rows of three rates entered.
+use Prim.Native.Nat.{ℕ, _/_, _%_, _≤_}
+use lib.IntN.{pos}
+use lib.ListN.{replicate, getD-replicate}
+use Rattle.laws.specs.Tests.{all}
+use Rattle.paper.specs.Ladder.{buckets}
+use Rattle.paper.specs.Behaviour.{behaviouralRate, withdrawalMultipliers, termDepositFlow}
+use Rattle.paper.specs.Flow.{sided}
+use Rattle.paper.specs.Decode.{decodeTermDeposit}
+use Rattle.paper.proofs.Deposits.{rate-at-most}
+use Rattle.paper.proofs.Magnitudes.{size-term-deposit}
+use Rattle.fields.specs.Answers.{amountsFrom}
+use Rattle.record.specs.Answers.{termDepositOf, termDepositRead}
+use Rattle.posting.specs.Parts.{trillion}
+use Rattle.behaviour.specs.Rows.{threeMultipliers}
+use Rattle.posting.proofs.Loops.{replicate-all, row-long, row-small}
+use Rattle.behaviour.proofs.Rows.{byPlace, rows-taken, tied, tied-within, tied-rate}
+use Rattle.behaviour.proofs.DepositRows.{withdrawn-small, withdrawn-flow}
+use mathlib.Core.Bool.{true, false}
+use mathlib.Core.List.{List, [], _∷_}
+use mathlib.Core.Path.{_≡_, refl, sym, ap, _∙_}
+use native.Mathlib.Omega.{arith}
+use borrow.Author.Needs.{needs}
+use Rattle.paper.specs.Refusals.{accepted}
+use Rattle.paper.specs.Records.{flows, currencies}
+use Rattle.paper.specs.Sound.{SoundFlows}
+use Rattle.paper.proofs.KindTable.{term-deposit-kind}
+use Rattle.record.specs.declared.term_deposit.TermDeposit.{TermDeposit}
+use Rattle.posting.proofs.Admission.{flows-refused, flows-sound}
+use Rattle.behaviour.proofs.AmountRange.{amounts-few, amounts-small}
+use Rattle.behaviour.proofs.term_deposit.take_term_deposit.Statement.{statement}
+use Rattle.behaviour.proofs.term_deposit.take_term_deposit.Tie as tie
+
+-- what is known once the body has been read
+module _ (c : tie.After-known-told2) where
+  abbrev body : List ℕ
+  body = c .before .before .before .before .before .before .args .body .now
+
+  abbrev fields : TermDeposit
+  fields = c .before .deposit .given .0 .0
+
+  read : decodeTermDeposit currencies body ≡ accepted (flows (fields .currency) (termDepositOf body fields))
+  unfolding termDepositRead
+  read = sym (c .before .before .before .decode-term-deposit .ensures) ∙ ap (termDepositRead body) (c .before .deposit .given .1)
+
+  sound : SoundFlows (termDepositOf body fields)
+  sound = flows-sound (λ _. false) (term-deposit-kind currencies (λ _. false) body .sound) read
+
+decode-term-deposit-requires : tie.Need-decode-term-deposit-requires
+decode-term-deposit-requires c κs = c .before .before .pre .0
+
+enum-known-fault : tie.Need-enum-known-fault
+enum-known-fault c = search needs
+
+enum-known-deposit : tie.Need-enum-known-deposit
+enum-known-deposit c = search needs
+
+-- a deposit's nineteen flows at each of the three rates
+abbrev row : tie.After-known-told2 → ℕ → ℕ → ℕ
+row w n = termDepositFlow (behaviouralRate threeMultipliers (fields w .share) n) (amountsFrom (body w) 3)
+
+abbrev which : List ℕ
+which = 0 ∷ 2 ∷ 1 ∷ 1 ∷ 2 ∷ 2 ∷ 1 ∷ []
+
+chosen : tied which withdrawalMultipliers ≡ true
+unfolding all threeMultipliers withdrawalMultipliers
+chosen = refl
+
+slice-aggregate-withdrawn-rows : tie.Need-slice-aggregate-withdrawn-rows
+slice-aggregate-withdrawn-rows c = search needs
+
+withdrawn-rows-requires : tie.Need-withdrawn-rows-requires
+unfolding SoundFlows
+withdrawn-rows-requires c κs =
+    let w = c .before in
+    ((w .before .before .before .before .before .before .pre .0 .long, sound w .0 .to, refl), amounts-small (sound w .1))
+
+sum-from-requires : tie.Need-sum-from-requires
+unfolding SoundFlows
+sum-from-requires c κs =
+    let w = c .before .before .before in
+    (omega (arith, w .before .before .before .before .before .before .pre .0 .long), amounts-small (sound w .1))
+
+slice-aggregate-enter-rows : tie.Need-slice-aggregate-enter-rows
+slice-aggregate-enter-rows c = search needs
+
+slice-aggregate-enter-rows-2 : tie.Need-slice-aggregate-enter-rows-2
+slice-aggregate-enter-rows-2 c = search needs
+
+slice-aggregate-enter-rows-3 : tie.Need-slice-aggregate-enter-rows-3
+slice-aggregate-enter-rows-3 c = search needs
+
+enter-rows-requires : tie.Need-enter-rows-requires
+enter-rows-requires c κs =
+    let w = c .before .before .before .before .before .before .before .before .before in
+    let filled = c .before .before .before .before .before .before .before .withdrawn-rows .ensures in
+    let size = c .before .before .before .before .before .sum-from .ensures in
+    let rate = behaviouralRate threeMultipliers (fields w .share) in (
+      record {
+        rows-long = row-long (byPlace (row w)) 57 filled;
+        which-long = refl;
+        which-in = tied-within which withdrawalMultipliers chosen;
+        rows-small = row-small (byPlace (row w)) 57 trillion filled (λ j l. omega (arith, withdrawn-small (rate (j / buckets)) (amountsFrom (body w) 3) (rate-at-most threeMultipliers (fields w .share) (j / buckets)) (amounts-few (body w) 3) (j % buckets) (omega arith), size .0, size .1));
+        sums-small = replicate-all 0 (λ n. n ≤ trillion) 3 (c .before .before .before .before .before .sum-from .result) (omega (arith, size .1)) (omega arith);
+      },
+      w .before .before .before .before .before .before .pre .1,
+    )
+
+returns : tie.Need-returns
+unfolding termDepositRead
+returns c = flows-refused (c .before .fault .given .0 .0) (sym (c .before .before .before .decode-term-deposit .ensures) ∙ ap (termDepositRead _) (c .before .fault .given .1)) _ _
+
+same-length : tie.Need-same-length
+same-length c = search needs
+
+same-length-2 : tie.Need-same-length-2
+same-length-2 c = search needs
+
+returns-2 : tie.Need-returns-2
+returns-2 c =
+    let w = c .before .before .before .before .before .before .before .before .before .before .before .before .before in
+    let d = fields w in
+    let amounts = amountsFrom (body w) 3 in
+    let sum = c .before .before .before .before .before .before .before .before .before .sum-from in
+    let within = tied-within which withdrawalMultipliers chosen in
+    rows-taken _ (read w) 2 (w .before .before .before .before .before .before .pre .1) (row w) which (replicate 3 (sum .result)) (c .before .before .before .before .before .before .before .before .before .before .before .withdrawn-rows .ensures) within
+    (λ i k o. ap (λ (x : ℕ). sided 2 (pos (termDepositFlow x amounts k))) (tied-rate which withdrawalMultipliers chosen i o (d .share)) ∙ withdrawn-flow (d .currency) (d .share) amounts i k)
+    (λ i o. getD-replicate 3 _ (sum .result) 0 (within i o) ∙ sum .ensures .0 ∙ sym (size-term-deposit (d .currency) i (d .share) amounts (amounts-few (body w) 3)))
+    (c .before .before .before .enter-rows .ensures)
+
+pub take-term-deposit-spec : {M : Type 1} → statement M
+take-term-deposit-spec =
+    tie.close
+    (tie.spec
+    decode-term-deposit-requires
+    enum-known-fault
+    enum-known-deposit
+    slice-aggregate-withdrawn-rows
+    withdrawn-rows-requires
+    sum-from-requires
+    slice-aggregate-enter-rows
+    slice-aggregate-enter-rows-2
+    slice-aggregate-enter-rows-3
+    enter-rows-requires
+    returns
+    same-length
+    same-length-2
+    returns-2)

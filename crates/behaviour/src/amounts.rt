@@ -1,0 +1,34 @@
+// Nineteen amounts in a row, by bucket, read where they stand in the body.
+ghost use Prim.Native.Nat.{_+_, _<_, _≤_};
+ghost use mathlib.Core.Path.{_≡_};
+ghost use lib.ListN.{length, getD};
+ghost use Rattle.laws.specs.Sums.{sumOf};
+ghost use Rattle.paper.specs.Scales.{billion};
+ghost use Rattle.paper.specs.Ladder.{buckets};
+ghost use Rattle.fields.specs.Answers.{amountsFrom};
+ghost use Rattle.posting.specs.Parts.{AtMost};
+use fields::bytes::four_at;
+use paper::BUCKETS;
+
+// The amount of bucket k + 1.
+pub fn amount_of(body: &[u8], from: usize, k: usize) -> u64
+    requires { ⌜ (from + 76 ≤ length (now body)) × (k < buckets) ⌝ }
+    requires { ⌜ AtMost billion (amountsFrom (now body) from) ⌝ }
+    ensures { λ r. ⌜ (r ≡ getD (amountsFrom (now (body .entry)) from) k 0) × (r ≤ billion) ⌝ }
+{
+    four_at(body, from + 4 * k) as u64
+}
+
+pub fn sum_from(body: &[u8], from: usize) -> u64
+    requires { ⌜ from + 76 ≤ length (now body) ⌝ }
+    requires { ⌜ AtMost billion (amountsFrom (now body) from) ⌝ }
+    ensures { λ r. ⌜ (r ≡ sumOf (amountsFrom (now (body .entry)) from)) × (r ≤ 19_000_000_000) ⌝ }
+{
+    let mut total: u64 = 0;
+    let mut k: usize = 0;
+    while k < BUCKETS {
+        total += amount_of(body, from, k);
+        k += 1;
+    }
+    total
+}

@@ -1,0 +1,52 @@
+// Kind 4, a liability: each core amount in its bucket, and total less core in bucket 1; the same in every scenario.
+ghost use Prim.Native.Nat.{_≤_};
+ghost use mathlib.Core.Path.{_≡_};
+ghost use lib.ListN.{length};
+ghost use Rattle.laws.specs.Sums.{sumOf};
+ghost use Rattle.laws.specs.Lists.{tabulate};
+ghost use Rattle.paper.specs.Scales.{billion};
+ghost use Rattle.paper.specs.Ladder.{buckets};
+ghost use Rattle.paper.specs.Records.{currencies};
+ghost use Rattle.paper.specs.Behaviour.{depositFlow};
+ghost use Rattle.paper.specs.Decode.{decodeDeposit};
+ghost use Rattle.fields.specs.Answers.{amountsFrom};
+ghost use Rattle.record.specs.Answers.{Body};
+ghost use Rattle.posting.specs.Parts.{AtMost, FlowParts};
+ghost use Rattle.posting.specs.Answers.{TakesFlows};
+use crate::amounts::amount_of;
+use crate::amounts::sum_from;
+use paper::BUCKETS;
+use posting::Taken;
+use posting::flows::enter_row;
+use record::deposit::DecodedDeposit;
+use record::deposit::decode_deposit;
+
+fn core_row(body: &[u8], total: u64, row: &mut [u64])
+    requires { ⌜ (length (now body) ≡ 82) × (total ≤ billion) × (length (now row) ≡ buckets) ⌝ }
+    requires { ⌜ AtMost billion (amountsFrom (now body) 6) × (sumOf (amountsFrom (now body) 6) ≤ total) ⌝ }
+    ensures { λ _. ⌜ now (row .exit) ≡ tabulate (depositFlow total (amountsFrom (now (body .entry)) 6)) buckets ⌝ }
+{
+    let rest = total - sum_from(body, 6);
+    let mut k: usize = 0;
+    while k < BUCKETS {
+        row[k] = amount_of(body, 6, k);
+        k += 1;
+    }
+    row[0] += rest;
+}
+
+pub fn take_deposit(currency: u32, body: &[u8], section: &mut [i64], sizes: &mut [u64]) -> Taken
+    requires { ⌜ Body 82 currency (now body) ⌝ }
+    requires { ⌜ FlowParts (now section) (now sizes) ⌝ }
+    ensures { λ r. ⌜ TakesFlows (decodeDeposit currencies (now (body .entry))) section sizes r ⌝ }
+{
+    match decode_deposit(currency, body) {
+        DecodedDeposit::Refused(fault) => Taken::Refused(fault),
+        DecodedDeposit::Is(deposit) => {
+            let total = deposit.total as u64;
+            let mut row = [0u64; BUCKETS];
+            core_row(body, total, &mut row);
+            enter_row(&row, 2, total, section, sizes)
+        }
+    }
+}

@@ -1,0 +1,144 @@
+// Kind 5, an asset: in each bucket what is paid, prepaid and due as interest; the balance is carried from bucket to bucket.
+ghost use Prim.Native.Nat.{_+_, _*_, _-_, _≤_};
+ghost use mathlib.Core.Bool.{false, _&&_};
+ghost use mathlib.Core.Path.{_≡_};
+ghost use lib.ListN.{length};
+ghost use Rattle.laws.specs.Tests.{_is_, _below_};
+ghost use Rattle.laws.specs.Sums.{sum, sumOf};
+ghost use Rattle.laws.specs.Lists.{tabulate};
+ghost use Rattle.paper.specs.Scales.{billion};
+ghost use Rattle.paper.specs.Ladder.{buckets};
+ghost use Rattle.paper.specs.Records.{currencies};
+ghost use Rattle.paper.specs.Behaviour.{wholeRate, paid, prepaid, interest, loanFlow};
+ghost use Rattle.paper.specs.Decode.{decodeLoan};
+ghost use Rattle.fields.specs.Answers.{amountsFrom};
+ghost use Rattle.record.specs.Answers.{Body};
+ghost use Rattle.posting.specs.Parts.{FlowParts};
+ghost use Rattle.posting.specs.Answers.{TakesFlows};
+ghost use Rattle.behaviour.specs.Rows.{SoundSchedule, loanRows, loanSums};
+use crate::amounts::amount_of;
+use crate::amounts::sum_from;
+use crate::rates::RATES;
+use crate::rates::ROWS;
+use crate::rates::rates_of;
+use paper::BUCKETS;
+use posting::Taken;
+use posting::flows::enter_rows;
+use record::loan::DecodedLoan;
+use record::loan::decode_loan;
+
+// A bucket's flow, and what is outstanding after it.
+struct Step {
+    flow: u64,
+    left: u64,
+}
+
+fn paid(scheduled: u64, outstanding: u64) -> u64
+    ensures { λ r. ⌜ (r ≡ paid scheduled outstanding) × (r ≤ outstanding) ⌝ }
+{
+    if scheduled < outstanding {
+        return scheduled;
+    }
+    outstanding
+}
+
+// The rate's part of the balance before payment, at most what payment leaves.
+fn prepaid(rate: u64, scheduled: u64, outstanding: u64) -> u64
+    requires { ⌜ (rate ≤ wholeRate) × (outstanding ≤ billion) ⌝ }
+    ensures { λ r. ⌜ (r ≡ prepaid rate scheduled outstanding) × (paid scheduled outstanding + r ≤ outstanding) ⌝ }
+{
+    let part = outstanding * rate / 100000;
+    let left = outstanding - paid(scheduled, outstanding);
+    if part < left {
+        return part;
+    }
+    left
+}
+
+// Scheduled interest in the proportion of the balance to the scheduled one.
+fn interest(scheduled: u64, outstanding: u64, remaining: u64) -> u64
+    requires { ⌜ (scheduled ≤ billion) × (outstanding ≤ remaining) × (remaining ≤ billion) ⌝ }
+    requires { ⌜ (0 below scheduled && remaining is 0) ≡ false ⌝ }
+    ensures { λ r. ⌜ (r ≡ interest scheduled outstanding remaining) × (r ≤ scheduled) ⌝ }
+{
+    if scheduled == 0 {
+        return 0;
+    }
+    scheduled * outstanding / remaining
+}
+
+// One bucket: its scheduled principal and interest, and the balance and the scheduled one before payment.
+fn bucket_step(rate: u64, principal: u64, charge: u64, outstanding: u64, remaining: u64) -> Step
+    requires { ⌜ (rate ≤ wholeRate) × (charge ≤ billion) × (outstanding ≤ remaining) × (remaining ≤ billion) ⌝ }
+    requires { ⌜ (0 below charge && remaining is 0) ≡ false ⌝ }
+    ensures { λ r. ⌜ r .flow ≡ paid principal outstanding + prepaid rate principal outstanding + interest charge outstanding remaining ⌝ }
+    ensures { λ r. ⌜ r .left ≡ outstanding - paid principal outstanding - prepaid rate principal outstanding ⌝ }
+{
+    let scheduled = paid(principal, outstanding);
+    let early = prepaid(rate, principal, outstanding);
+    Step {
+        flow: scheduled + early + interest(charge, outstanding, remaining),
+        left: outstanding - scheduled - early,
+    }
+}
+
+// One rate's nineteen flows, and their sum.
+fn loan_row(body: &[u8], rate: u64, principal: u64, row: &mut [u64]) -> u64
+    requires { ⌜ (length (now body) ≡ 155) × (rate ≤ wholeRate) × (length (now row) ≡ buckets) ⌝ }
+    requires { ⌜ (principal ≡ sumOf (amountsFrom (now body) 3)) × SoundSchedule (amountsFrom (now body) 3) (amountsFrom (now body) 79) ⌝ }
+    ensures { λ r. ⌜ now (row .exit) ≡ tabulate (loanFlow rate (amountsFrom (now (body .entry)) 3) (amountsFrom (now (body .entry)) 79)) buckets ⌝ }
+    ensures { λ r. ⌜ r ≡ sum (loanFlow rate (amountsFrom (now (body .entry)) 3) (amountsFrom (now (body .entry)) 79)) buckets ⌝ }
+{
+    let mut outstanding = principal;
+    let mut remaining = principal;
+    let mut total: u64 = 0;
+    let mut k: usize = 0;
+    while k < BUCKETS {
+        let scheduled = amount_of(body, 3, k);
+        let charge = amount_of(body, 79, k);
+        let step = bucket_step(rate, scheduled, charge, outstanding, remaining);
+        row[k] = step.flow;
+        total += step.flow;
+        outstanding = step.left;
+        remaining -= scheduled;
+        k += 1;
+    }
+    total
+}
+
+// The rows of the three rates, and the sum of each.
+fn loan_rows(body: &[u8], share: u32, rows: &mut [u64], sums: &mut [u64])
+    requires { ⌜ (length (now body) ≡ 155) × (share ≤ 10000) × (length (now rows) ≡ buckets * 3) × (length (now sums) ≡ 3) ⌝ }
+    requires { ⌜ SoundSchedule (amountsFrom (now body) 3) (amountsFrom (now body) 79) ⌝ }
+    ensures { λ _. ⌜ now (rows .exit) ≡ loanRows share (now (body .entry)) ⌝ }
+    ensures { λ _. ⌜ now (sums .exit) ≡ loanSums share (now (body .entry)) ⌝ }
+{
+    let rates = rates_of(share);
+    let principal = sum_from(body, 3);
+    let mut i: usize = 0;
+    while i < RATES {
+        let rate = rates[i];
+        let from = BUCKETS * i;
+        let to = from + BUCKETS;
+        sums[i] = loan_row(body, rate, principal, &mut rows[from..to]);
+        i += 1;
+    }
+}
+
+pub fn take_loan(currency: u32, body: &[u8], section: &mut [i64], sizes: &mut [u64]) -> Taken
+    requires { ⌜ Body 155 currency (now body) ⌝ }
+    requires { ⌜ FlowParts (now section) (now sizes) ⌝ }
+    ensures { λ r. ⌜ TakesFlows (decodeLoan currencies (now (body .entry))) section sizes r ⌝ }
+{
+    match decode_loan(currency, body) {
+        DecodedLoan::Refused(fault) => Taken::Refused(fault),
+        DecodedLoan::Is(loan) => {
+            // Which of the three rates each scenario has (001, table 5).
+            let which = [0usize, 1, 2, 1, 2, 1, 2];
+            let mut rows = [0u64; ROWS];
+            let mut sums = [0u64; RATES];
+            loan_rows(body, loan.share, &mut rows, &mut sums);
+            enter_rows(&rows, &which, 1, &sums, section, sizes)
+        }
+    }
+}

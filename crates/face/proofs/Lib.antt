@@ -1,0 +1,4 @@
+-- `assess`'s answer as a number and a place
+pub mod FaceLaws
+-- any two outcomes are one
+pub mod Unique

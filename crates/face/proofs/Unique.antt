@@ -1,0 +1,24 @@
+-- Any two outcomes that the contract of the face permits are one.
+use Prim.Native.Nat.{ℕ}
+use mathlib.Core.List.{List}
+use mathlib.Core.Path.{_≡_, sym, _∙_}
+use lib.IntN.{ℤ}
+use Rattle.paper.specs.Refusals.{Checked}
+use Rattle.paper.specs.Records.{Record}
+use Rattle.face.specs.Face.{Faced}
+
+pub record SameFace (number number' : ℕ) (report report' ledger ledger' : List ℤ) (place place' : List ℕ) : Type 0 where
+  pub numbers : number ≡ number'
+  pub places : place ≡ place'
+  pub reports : report ≡ report'
+  pub ledgers : ledger ≡ ledger'
+
+pub one-face : {o : Checked (List Record)} {T : ℕ} {report ledger report₁ report₂ ledger₁ ledger₂ : List ℤ} {place place₁ place₂ : List ℕ} {m n : ℕ}
+    → Faced o T report ledger place m report₁ ledger₁ place₁ → Faced o T report ledger place n report₂ ledger₂ place₂
+    → SameFace m n report₁ report₂ ledger₁ ledger₂ place₁ place₂
+one-face p q = record {
+  numbers = p .number-is ∙ sym (q .number-is);
+  places = p .place-is ∙ sym (q .place-is);
+  reports = p .report-is ∙ sym (q .report-is);
+  ledgers = p .ledger-is ∙ sym (q .ledger-is);
+}

@@ -1,0 +1,39 @@
+// The face of `assess` for callers in other languages: numbers and slices only. It is a crate of its own, because the archive proves its crate once more.
+ghost use mathlib.Core.Path.{_≡_};
+ghost use Rattle.face.specs.Face.{Faces, withPlace};
+use book::assess::Assessed;
+use book::assess::assess;
+use book::refusal::refusal_number;
+
+// A caller that lends no cell for the place is not told it.
+fn put_place(place: &mut [u64], told: u64)
+    ensures { λ _. ⌜ now (place .exit) ≡ withPlace told (now (place .entry)) ⌝ }
+{
+    if place.len() > 0 {
+        place[0] = told;
+    }
+}
+
+// 0 and place 0 where the report was written, else the refusal's number and its place.
+#[no_mangle]
+pub extern "C" fn vorlegan_assess(
+    book: &[u8],
+    tier1: u64,
+    report: &mut [i64],
+    ledger: &mut [i64],
+    place: &mut [u64],
+) -> u32
+    ensures { λ r. ⌜ Faces (now (book .entry)) tier1 report ledger place r ⌝ }
+{
+    match assess(book, tier1, report, ledger) {
+        Assessed::Reported(_) => {
+            put_place(place, 0);
+            0
+        }
+        Assessed::Refused(fault) => {
+            put_place(place, fault.place as u64);
+            let cause = fault.cause;
+            refusal_number(cause)
+        }
+    }
+}
