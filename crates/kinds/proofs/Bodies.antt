@@ -29,7 +29,7 @@ use Rattle.posting.specs.declared.Taken.the-variants.{Refused}
 use Rattle.posting.specs.Parts.{FlowParts}
 use Rattle.slotting.specs.Parts.{OptionParts, RateParts}
 use Rattle.posting.specs.Answers.{into, flowsFit, FlowsTaken, optionsFit, OptionTaken, CurveTaken}
-use Rattle.kinds.specs.Bodies.{enteredIn, BodyTaken}
+use Rattle.kinds.specs.Bodies.{BodyTaken}
 use Rattle.paper.proofs.KindTable.{Row, NoneOf, none-decoded}
 
 -- ---- a part with nothing joined stays
@@ -59,7 +59,7 @@ module _ (r : Record) where
 
 module _ (p : Arrays) where
   flows-enter : (x : Checked Record) → Known FlowsOnly x
-      → arraysAs (into withFlows x (p .ledger)) (p .rates) (p .addOns) (into withSizes x (p .sizes)) (p .optionSizes) ≡ enteredIn x p
+      → arraysAs (into withFlows x (p .ledger)) (p .rates) (p .addOns) (into withSizes x (p .sizes)) (p .optionSizes) ≡ into inParts x p
   unfolding inParts
   flows-enter (refused q place) k = refl
   flows-enter (accepted r) k =
@@ -67,7 +67,7 @@ module _ (p : Arrays) where
       same-arrays refl (same-rates r (only .no-rate) (p .rates)) (same-addOns r (only .no-add-on) (p .addOns)) refl (same-optionSizes r (only .no-add-on) (p .optionSizes))
 
   option-enter : (x : Checked Record) → Known AddOnOnly x
-      → arraysAs (p .ledger) (p .rates) (into withAddOns x (p .addOns)) (p .sizes) (into withOptionSizes x (p .optionSizes)) ≡ enteredIn x p
+      → arraysAs (p .ledger) (p .rates) (into withAddOns x (p .addOns)) (p .sizes) (into withOptionSizes x (p .optionSizes)) ≡ into inParts x p
   unfolding inParts
   option-enter (refused q place) k = refl
   option-enter (accepted r) k =
@@ -75,7 +75,7 @@ module _ (p : Arrays) where
       same-arrays (same-ledger r (only .no-flow) (p .ledger)) (same-rates r (only .no-rate) (p .rates)) refl (same-sizes r (only .no-flow) (p .sizes)) refl
 
   curve-enter : (x : Checked Record) → Known CurveOnly x
-      → arraysAs (p .ledger) (into withRates x (p .rates)) (p .addOns) (p .sizes) (p .optionSizes) ≡ enteredIn x p
+      → arraysAs (p .ledger) (into withRates x (p .rates)) (p .addOns) (p .sizes) (p .optionSizes) ≡ into inParts x p
   unfolding inParts
   curve-enter (refused q place) k = refl
   curve-enter (accepted r) k =

@@ -23,7 +23,8 @@ use Rattle.arrays.proofs.Sets.{MasksOf, masks-none, masks-more}
 use Rattle.arrays.proofs.Agree.{Agree, record-agrees, sound-currency}
 use Rattle.load.specs.declared.turn.Step.{Step}
 use Rattle.load.specs.declared.turn.Step.the-variants.{Refused}
-use Rattle.load.specs.Step.{entered, onTo, stepped, Stepped}
+use Rattle.posting.specs.Answers.{into}
+use Rattle.load.specs.Step.{onTo, stepped, Stepped}
 
 -- the walk is at a place with the records kept in its arrays; the fuel is more than the bytes left
 pub record Walking (book : List ℕ) (a : Arrays) (at : ℕ) (m : Masks) : Type 0 where
@@ -111,7 +112,7 @@ module _ (book : List ℕ) (a : Arrays) (at : ℕ) (m : Masks) (w : Walking book
           fuel = pred (w .fuel);
           more = omega (arith, sub-one (w .fuel), w .more, forward);
           same = ap (λ (n : ℕ). walkFrom currencies (pred (w .fuel)) book n (w .kept ++ (r ∷ []))) forward ∙ goes (accepted r) read;
-          arrays = s .arrays ∙ ap (λ (y : Checked Record). entered y a) read ∙ ap (withRecord r) (w .arrays) ∙ sym (arrays-more (w .kept) r (c .from) (c .to));
+          arrays = s .arrays ∙ ap (λ (y : Checked Record). into withRecord y a) read ∙ ap (withRecord r) (w .arrays) ∙ sym (arrays-more (w .kept) r (c .from) (c .to));
           masks = rw marks (masks-more m (w .kept) r (c .from) (c .to) (w .masks));
           good = good-more r (w .good) p;
         }

@@ -16,12 +16,13 @@ use Rattle.paper.proofs.Checks.{Known, known-of, chain, unless-known}
 use Rattle.paper.proofs.KindTable.{first-field}
 use Rattle.arrays.specs.Masks.{curvedBy}
 use Rattle.arrays.specs.Rooms.{soFarBy, soFarIn}
-use Rattle.arrays.specs.Arrays.{Arrays, arraysAs, partOf, partsOf, withParts, withRecord, PartsHold}
+use Rattle.arrays.specs.Arrays.{Arrays, arraysAs, partOf, partsOf, withParts, inParts, withRecord, PartsHold}
 use Rattle.arrays.proofs.Agree.{admitted-agrees, parts-agree}
 use Rattle.arrays.proofs.More.{same-arrays}
 use Rattle.posting.specs.declared.Taken.{Taken}
-use Rattle.kinds.specs.Bodies.{enteredIn, BodyTaken}
-use Rattle.load.specs.Step.{entered, RecordTaken}
+use Rattle.posting.specs.Answers.{into}
+use Rattle.kinds.specs.Bodies.{BodyTaken}
+use Rattle.load.specs.Step.{RecordTaken}
 
 -- the length of a part as the code lends it, from width * n up to width * n + width, counted
 part-long : (width n : ℕ) → width * n + width - width * n ≡ width
@@ -35,7 +36,7 @@ pub admitted-own : (mask : ℕ) (sizes optionSizes : List ℕ) (kind : ℕ) (bod
 unfolding admitted
 admitted-own mask sizes optionSizes kind body = chain (first-field currencies _ kind body .own) (λ r e. unless-known _ _ _ r tt (λ _. e))
 
-put-back : (c : ℕ) (a : Arrays) (x : Checked Record) → ((r : Record) → x ≡ accepted r → currencyOf r ≡ c) → withParts c a (enteredIn x (partsOf c a)) ≡ entered x a
+put-back : (c : ℕ) (a : Arrays) (x : Checked Record) → ((r : Record) → x ≡ accepted r → currencyOf r ≡ c) → withParts c a (into inParts x (partsOf c a)) ≡ into withRecord x a
 unfolding withRecord
 put-back c a (accepted r) own = rw (own r refl)
 put-back c a (refused q place) own =

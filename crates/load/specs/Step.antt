@@ -15,19 +15,15 @@ use Rattle.arrays.specs.Masks.{marked}
 use Rattle.arrays.specs.Rooms.{soFarBy}
 use Rattle.arrays.specs.Arrays.{Arrays, withRecord}
 use Rattle.posting.specs.declared.Taken.{Taken}
-use Rattle.posting.specs.Answers.{takenOf}
+use Rattle.posting.specs.Answers.{takenOf, into}
 use Rattle.load.specs.declared.turn.Step.{Step}
 use Rattle.load.specs.declared.turn.Step.the-variants.{On, Refused, End}
 
 -- ---- a body, in the arrays
 
-abbrev pub entered : Checked Record → Arrays → Arrays
-entered (accepted r) a = withRecord r a
-entered (refused q place) a = a
-
 pub record RecordTaken (read : Checked Record) (a : Arrays) (answer : Taken) (a' : Arrays) : Type 0 where
   pub answered : answer ≡ takenOf read
-  pub arrays : a' ≡ entered read a
+  pub arrays : a' ≡ into withRecord read a
 
 -- what is tested against, by the mask of the currencies with a curve and by the sums
 abbrev pub tested : ℕ → Arrays → SoFar
@@ -52,7 +48,7 @@ stepped (refused q place) next m = Refused (record { cause = q; place = place })
 
 pub record Stepped (read : Checked Record) (next : ℕ) (m : Masks) (a : Arrays) (answer : Step) (a' : Arrays) : Type 0 where
   pub answered : answer ≡ stepped read next m
-  pub arrays : a' ≡ entered read a
+  pub arrays : a' ≡ into withRecord read a
 
 -- of a body whose record begins at a place
 abbrev pub StepsOver : ℕ → List ℕ → (at next : ℕ) → Masks → Arrays → Step → Arrays → Type 0
@@ -61,7 +57,7 @@ StepsOver kind body at next m a = Stepped (placed at (admitted currencies (teste
 -- the same at a place where the book may be over: there nothing changes
 pub record Turned (over : Bool) (read : Checked Record) (next : ℕ) (m : Masks) (a : Arrays) (answer : Step) (a' : Arrays) : Type 0 where
   pub answered : answer ≡ (if over then End else stepped read next m)
-  pub arrays : a' ≡ (if over then a else entered read a)
+  pub arrays : a' ≡ (if over then a else into withRecord read a)
 
 abbrev pub Turns : List ℕ → ℕ → Masks → Arrays → Step → Arrays → Type 0
 Turns book at m a = Turned (length book upTo at) (recordAt currencies (tested (m .curved) a) book at) (nextAt book at) m a

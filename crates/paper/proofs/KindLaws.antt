@@ -80,18 +80,14 @@ pub record FirstField (top : ℕ) (curved : ℕ → Bool) (kind : ℕ) (body : L
   pub marks : Known (λ r. isCurve r ≡ curveKind kind) m
   pub sound : Checks Clears (Sound top curved) m
 
-module _ {top : ℕ} {curved : ℕ → Bool} {kind n : ℕ} {body : List ℕ} {m : Checked Record} (here : kind ≡ n) where
-  of-kind : {Only : Record → Type 0} → ((r : Record) → Only r → isCurve r ≡ curveKind n) → Kind top curved Only body m → FirstField top curved kind body m
-  of-kind marks k = record { refuses = λ _. k .refuses; own = k .own; marks = weaker (λ r only. marks r only ∙ ap curveKind (sym here)) (k .only); sound = k .sound }
-
-  pub flows-kind : curveKind n ≡ false → Kind top curved FlowsOnly body m → FirstField top curved kind body m
-  flows-kind e k = of-kind (λ r only. only .position ∙ sym e) k
-
-  pub add-on-kind : curveKind n ≡ false → Kind top curved AddOnOnly body m → FirstField top curved kind body m
-  add-on-kind e k = of-kind (λ r only. only .position ∙ sym e) k
-
-  pub curve-kind : curveKind n ≡ true → Kind top curved CurveOnly body m → FirstField top curved kind body m
-  curve-kind e k = of-kind (λ r only. only .curved ∙ sym e) k
+pub of-kind : {top : ℕ} {curved : ℕ → Bool} {kind n : ℕ} {body : List ℕ} {m : Checked Record} {Only : Record → Type 0} → kind ≡ n
+    → ((r : Record) → Only r → isCurve r ≡ curveKind n) → Kind top curved Only body m → FirstField top curved kind body m
+of-kind here marks k = record {
+  refuses = λ _. k .refuses;
+  own = k .own;
+  marks = weaker (λ r only. marks r only ∙ ap curveKind (sym here)) (k .only);
+  sound = k .sound;
+}
 
 pub no-kind : {top : ℕ} {curved : ℕ → Bool} {kind : ℕ} {body : List ℕ} {q : Refusal} {place : ℕ} → Clears q → unknownKind kind ≡ true → FirstField top curved kind body (refused q place)
 no-kind c e = record { refuses = λ f. let z : _≡_ {A = Bool} true false = cc in absurd (true≢false z); own = gone tt; marks = gone tt; sound = gone c }

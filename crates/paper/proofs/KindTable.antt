@@ -15,7 +15,7 @@ use Rattle.paper.specs.Book.{touchesNothing}
 use Rattle.paper.specs.Sound.{SoundFlows, Sound}
 use Rattle.paper.proofs.Checks.{known, chain, tested, each-known}
 use Rattle.paper.proofs.Ranges.{side-known, months-known, days-known, period-known, count-known, amount-known, option-known, share-known, category-known, shock-known, amounts-known, rates-known, core-within, none-bad, shocked-ranged}
-use Rattle.paper.proofs.KindLaws.{FlowsOnly, AddOnOnly, CurveOnly, Kind, begins, flows-read, FirstField, flows-kind, add-on-kind, curve-kind, no-kind}
+use Rattle.paper.proofs.KindLaws.{FlowsOnly, AddOnOnly, CurveOnly, Kind, begins, flows-read, FirstField, of-kind, no-kind}
 
 module _ (top : ℕ) (curved : ℕ → Bool) (body : List ℕ) where
   pub single-kind : Kind top curved FlowsOnly body (decodeSingle top body)
@@ -88,9 +88,9 @@ module _ (top : ℕ) (curved : ℕ → Bool) (body : List ℕ) where
       chain (each-known (option-known body) 6 2) (λ vs hv.
       known {a = option c s vs} (record { own = refl; only = record { position = refl; no-flow = λ i k. refl; no-rate = λ i k. refl }; sound = (hc, hs, hv) }))))
 
-  pub rate-kind : Kind top curved CurveOnly body (decodeCurve top curved body)
+  pub curve-kind : Kind top curved CurveOnly body (decodeCurve top curved body)
   unfolding decodeCurve Sound secondCurve currencyOf isCurve flow adds touchesNothing numberOf
-  rate-kind =
+  curve-kind =
       begins top body (λ c hc.
       tested _ _ _ _ refl (λ e.
       chain (rates-known body 1) (λ rs hr.
@@ -194,12 +194,12 @@ module _ (top : ℕ) (curved : ℕ → Bool) (kind : ℕ) (body : List ℕ) wher
   pub first-field : FirstField top curved kind body (decode top curved kind body)
   unfolding decode curveKind touchesNothing numberOf
   first-field =
-      at 1 (λ e. flows-kind e refl (single-kind top curved body)) (λ n1.
-      at 2 (λ e. flows-kind e refl (coupons-kind top curved body)) (λ n2.
-      at 3 (λ e. flows-kind e refl (floating-kind top curved body)) (λ n3.
-      at 4 (λ e. flows-kind e refl (deposit-kind top curved body)) (λ n4.
-      at 5 (λ e. flows-kind e refl (loan-kind top curved body)) (λ n5.
-      at 6 (λ e. flows-kind e refl (term-deposit-kind top curved body)) (λ n6.
-      at 7 (λ e. add-on-kind e refl (option-kind top curved body)) (λ n7.
-      at 8 (λ e. curve-kind e refl (rate-kind top curved body)) (λ n8.
+      at 1 (λ e. of-kind e (λ r only. only .position) (single-kind top curved body)) (λ n1.
+      at 2 (λ e. of-kind e (λ r only. only .position) (coupons-kind top curved body)) (λ n2.
+      at 3 (λ e. of-kind e (λ r only. only .position) (floating-kind top curved body)) (λ n3.
+      at 4 (λ e. of-kind e (λ r only. only .position) (deposit-kind top curved body)) (λ n4.
+      at 5 (λ e. of-kind e (λ r only. only .position) (loan-kind top curved body)) (λ n5.
+      at 6 (λ e. of-kind e (λ r only. only .position) (term-deposit-kind top curved body)) (λ n6.
+      at 7 (λ e. of-kind e (λ r only. only .position) (option-kind top curved body)) (λ n7.
+      at 8 (λ e. of-kind e (λ r only. only .curved) (curve-kind top curved body)) (λ n8.
       no-kind refl (no-length (none-such kind ((((((((tt, n1), n2), n3), n4), n5), n6), n7), n8)))))))))))

@@ -19,9 +19,10 @@ abbrev pub takenOf : Checked Record → Taken
 takenOf (accepted r) = Done
 takenOf (refused q place) = Refused (record { cause = q; place = place })
 
-abbrev pub into : {A : Type 0} → (Record → List A → List A) → Checked Record → List A → List A
-into with' (accepted r) part = with' r part
-into with' (refused q place) part = part
+-- what was read, taken into the parts that it touches; a refused record changes nothing
+abbrev pub into : {A : Type 0} → (Record → A → A) → Checked Record → A → A
+into with' (accepted r) parts = with' r parts
+into with' (refused q place) parts = parts
 
 -- ---- kinds 1 to 6, in the 133 cells and 7 sizes
 

@@ -2,7 +2,7 @@
 use mathlib.Core.Bool.{false}
 use borrow.Author.Needs.{needs}
 use Rattle.paper.specs.Records.{currencies}
-use Rattle.paper.proofs.KindTable.{single-kind, coupons-kind, floating-kind, deposit-kind, loan-kind, term-deposit-kind, option-kind, rate-kind, row-1, row-2, row-3, row-4, row-5, row-6, row-7, row-8}
+use Rattle.paper.proofs.KindTable.{single-kind, coupons-kind, floating-kind, deposit-kind, loan-kind, term-deposit-kind, option-kind, curve-kind, row-1, row-2, row-3, row-4, row-5, row-6, row-7, row-8}
 use Rattle.kinds.proofs.Bodies.{row-body, flow-parts, option-parts, rate-parts, flows-body, option-body, curve-body, unknown-body}
 use Rattle.kinds.proofs.take_body.Statement.{statement}
 use Rattle.kinds.proofs.take_body.Tie as tie
@@ -98,7 +98,7 @@ same-length-15 : tie.Need-same-length-15
 same-length-15 c = search needs
 
 returns-8 : tie.Need-returns-8
-returns-8 c = curve-body _ _ (c .before .before .before .before .before .before .before .pre .1) _ (row-8 currencies _) (c .before .before .before .match .keys8) (rate-kind currencies _ _ .only) (c .before .take-curve .ensures)
+returns-8 c = curve-body _ _ (c .before .before .before .before .before .before .before .pre .1) _ (row-8 currencies _) (c .before .before .before .match .keys8) (curve-kind currencies _ _ .only) (c .before .take-curve .ensures)
 
 returns-9 : tie.Need-returns-9
 returns-9 c = unknown-body _ _ _ _ (c .match .rest)

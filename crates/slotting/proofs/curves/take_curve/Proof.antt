@@ -11,7 +11,7 @@ use Rattle.paper.specs.Records.{curve, currencies}
 use Rattle.paper.specs.Decode.{decodeCurve}
 use Rattle.paper.specs.Sound.{SoundCurve, Sound}
 use Rattle.paper.proofs.Checks.{known-of}
-use Rattle.paper.proofs.KindTable.{rate-kind}
+use Rattle.paper.proofs.KindTable.{curve-kind}
 use Rattle.curve.specs.Shocked.{curveOf, shockedSection}
 use Rattle.record.specs.declared.curves.Curve.{Curve}
 use Rattle.fields.specs.Answers.{ratesFrom, goodRates}
@@ -37,7 +37,7 @@ module _ (c : tie.After-known-told2) where
 
   sound : SoundCurve (λ _. curved) (fields .currency) (curveOf (ratesFrom body 1) (fields .shocks))
   unfolding Sound
-  sound = known-of (rate-kind currencies (λ _. curved) body .sound) _ read .1
+  sound = known-of (curve-kind currencies (λ _. curved) body .sound) _ read .1
 
   good : goodRates body 1 ≡ buckets
   good = known-of (rates-good (λ _. curved) body) _ read
