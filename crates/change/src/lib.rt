@@ -20,7 +20,7 @@ ghost use Rattle.change.specs.Figures.{ownChanges, ownTolerances, withCh
 use ladder::Exponent;
 use ladder::Millionths;
 use ladder::TenThousandthYears;
-use ladder::Thousands;
+use ladder::SignedThousands;
 use paper::BUCKETS;
 use paper::SECTION;
 use paper::SHOCKED;
@@ -76,11 +76,11 @@ fn value_of(
     sum
 }
 
-fn in_thousands(billionths: i64) -> Thousands
+fn in_thousands(billionths: i64) -> SignedThousands
     requires { ⌜ natAbs billionths ≤ 7_000_000_000 * billion ⌝ }
     ensures { λ r. ⌜ r .0 ≡ nearestℤ billionths billion ⌝ }
 {
-    Thousands(rounded(billionths))
+    SignedThousands(rounded(billionths))
 }
 
 // The six changes.

@@ -14,8 +14,11 @@ pub struct Millionths(pub i64);
 // Times.
 pub struct TenThousandthYears(pub i64);
 
-// Money.
-pub struct Thousands(pub i64);
+// Money that has no sign: amounts, balances, sums of magnitudes, tolerances, capital.
+pub struct Thousands(pub u64);
+
+// Money that has one: a flow of its side, the value of an option, a change.
+pub struct SignedThousands(pub i64);
 
 // A rate times a midpoint, in units of 10^-10. The field is private: only `of` makes one.
 pub struct Exponent(i64);

@@ -10,29 +10,29 @@ ghost use Rattle.paper.specs.Ladder.{buckets};
 ghost use Rattle.paper.specs.Ledger.{sectionSize};
 ghost use Rattle.arrays.specs.Slots.{plusℤ};
 ghost use Rattle.posting.specs.Parts.{AtMost, AtMostℤ, column, rowFlow, trillion};
-use ladder::Thousands;
+use ladder::SignedThousands;
 use paper::BUCKETS;
 use paper::SCENARIOS;
 
 // An asset plus, a liability minus; an option sold plus, one bought minus.
-pub fn sided(side: u32, value: Thousands) -> Thousands
+pub fn sided(side: u32, value: SignedThousands) -> SignedThousands
     requires { ⌜ natAbs (value .0) ≤ trillion ⌝ }
     ensures { λ r. ⌜ r .0 ≡ sided side (value .0) ⌝ }
 {
     if side == 1 {
         return value;
     }
-    Thousands(0 - value.0)
+    SignedThousands(0 - value.0)
 }
 
-pub fn sided_amount(side: u32, amount: u64) -> Thousands
+pub fn sided_amount(side: u32, amount: u64) -> SignedThousands
     requires { ⌜ amount ≤ trillion ⌝ }
     ensures { λ r. ⌜ r .0 ≡ sided side (pos amount) ⌝ }
 {
-    sided(side, Thousands(amount as i64))
+    sided(side, SignedThousands(amount as i64))
 }
 
-pub fn add_into(cells: &mut [i64], at: usize, amount: Thousands)
+pub fn add_into(cells: &mut [i64], at: usize, amount: SignedThousands)
     requires { ⌜ at < length (now cells) ⌝ }
     requires { ⌜ SFits w64 (getD (now cells) at (pos 0) +ℤ amount .0) ⌝ }
     ensures { λ _. ⌜ now (cells .exit) ≡ set (now (cells .entry)) at (getD (now (cells .entry)) at (pos 0) +ℤ amount .0) ⌝ }
@@ -41,7 +41,7 @@ pub fn add_into(cells: &mut [i64], at: usize, amount: Thousands)
 }
 
 // One amount in one bucket of every scenario.
-pub fn post(section: &mut [i64], bucket: usize, amount: Thousands)
+pub fn post(section: &mut [i64], bucket: usize, amount: SignedThousands)
     requires { ⌜ (length (now section) ≡ sectionSize) × (1 ≤ bucket) × (bucket ≤ buckets) ⌝ }
     requires { ⌜ AtMostℤ trillion (now section) ⌝ }
     requires { ⌜ natAbs (amount .0) ≤ trillion ⌝ }

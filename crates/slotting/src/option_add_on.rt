@@ -14,7 +14,7 @@ ghost use Rattle.record.specs.Answers.{Body};
 ghost use Rattle.posting.specs.Parts.{AtMostℤ};
 ghost use Rattle.posting.specs.Answers.{TakesOption};
 ghost use Rattle.slotting.specs.Parts.{OptionParts};
-use ladder::Thousands;
+use ladder::SignedThousands;
 use paper::SHOCKED;
 use posting::Taken;
 use posting::cells::add_into;
@@ -45,7 +45,7 @@ fn add_values(addons: &mut [i64], side: u32, values: &[i64])
 {
     let mut j = 0;
     while j < addons.len() {
-        let value = sided(side, Thousands(values[j]));
+        let value = sided(side, SignedThousands(values[j]));
         add_into(addons, j, value);
         j += 1;
     }
