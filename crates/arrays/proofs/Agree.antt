@@ -1,20 +1,20 @@
 -- What a record is tested against may be told by the records kept, by the arrays or by its currency's own parts: where two of them agree on the currency, its body
 -- reads the same.
 use Prim.Native.Nat.{ℕ, suc, _+_, _*_, _-_, _≤_, _<_}
-use mathlib.Core.Bool.{Bool, true, false, not, _&&_}
+use mathlib.Core.Bool.{Bool, true, false, true≢false, _||_}
 use mathlib.Core.List.{List}
 use mathlib.Core.Path.{_≡_, refl, sym, ap, ap₂, _∙_}
 use native.Mathlib.Omega.{arith}
 use lib.IntN.{natAbs}
 use lib.ListN.{take, drop}
 use Rattle.laws.specs.Tests.{_below_}
-use Rattle.laws.proofs.Tests.{all-ext}
+use Rattle.laws.proofs.Tests.{any-ext}
 use Rattle.laws.proofs.Sections.{section-at}
 use Rattle.paper.specs.Scales.{billion}
 use Rattle.paper.specs.declared.Refusal.{Refusal}
 use Rattle.paper.specs.declared.Refusal.the-variants.{OverLimit}
 use Rattle.paper.specs.Refusals.{Checked, accepted, refused, _>>=_, _>>_, unless}
-use Rattle.paper.specs.Records.{Record, flows, option, curve, currencies, currencyOf, bodyLength}
+use Rattle.paper.specs.Records.{Record, flows, option, curve, currencies, currencyOf, isCurve, bodyLength}
 use Rattle.paper.specs.Flow.{scenarios, shocked, adds, magnitude}
 use Rattle.paper.specs.Ledger.{SoFar}
 use Rattle.paper.specs.TurnedDown.{unknownKind, secondCurve, flowsOver, optionsOver, overLimit}
@@ -47,6 +47,12 @@ sound-currency curved (flows c f) s = s .0
 sound-currency curved (option c side values) s = s .0
 sound-currency curved (curve c z) s = s .0
 
+pub sound-fresh : (curved : ℕ → Bool) (r : Record) → Sound currencies curved r → isCurve r ≡ true → curved (currencyOf r) ≡ false
+unfolding Sound currencyOf isCurve
+sound-fresh curved (flows c f) s e = absurd (true≢false (sym e))
+sound-fresh curved (option c side values) s e = absurd (true≢false (sym e))
+sound-fresh curved (curve c z) s e = s .1 .fresh
+
 -- ---- a body reads the same where the two agree on its currency
 
 module _ (c : ℕ) (x y : SoFar) (agree : Agree c x y) (body : List ℕ) (read : currencyAt currencies body 0 ≡ accepted c) where
@@ -61,9 +67,10 @@ module _ (c : ℕ) (x y : SoFar) (agree : Agree c x y) (body : List ℕ) (read :
   over-agrees : (r : Record) → currencyOf r ≡ c → overLimit x r ≡ overLimit y r
   unfolding overLimit flowsOver optionsOver
   over-agrees r e =
-      rw e (ap₂ (λ (p q : Bool). not (p && q))
-      (all-ext _ _ 0 7 (λ i _ l. ap (λ (n : ℕ). not (billion below n + magnitude r i)) (agree .size i l)))
-      (all-ext _ _ 1 6 (λ i l h. ap (λ (n : ℕ). not (billion below n + natAbs (adds r i))) (agree .optionSize i l (omega arith)))))
+      let own : Agree (currencyOf r) x y = rw e agree in
+      ap₂ _||_
+      (any-ext (flowsOver x r) (flowsOver y r) 0 7 (λ i _ l. ap (λ (n : ℕ). billion below n + magnitude r i) (own .size i l)))
+      (any-ext (optionsOver x r) (optionsOver y r) 1 6 (λ i l h. ap (λ (n : ℕ). billion below n + natAbs (adds r i)) (own .optionSize i l (omega arith))))
 
   pub admitted-agrees : (kind : ℕ) → admitted currencies x kind body ≡ admitted currencies y kind body
   unfolding admitted

@@ -19,6 +19,7 @@ use Rattle.paper.specs.Flow.{scenarios, shocked}
 use Rattle.paper.specs.Records.{Record, currencies}
 use Rattle.paper.specs.Ledger.{sectionSize, cells, totals, used, curved, ledgerOf}
 use Rattle.paper.proofs.Limits.{net-limited, addOn-limited}
+use Rattle.paper.proofs.Rate.{rate-none}
 use Rattle.paper.proofs.Walk.{Good}
 use Rattle.arrays.specs.declared.masks.Masks.{Masks}
 use Rattle.arrays.specs.Masks.{curvedBy, MaskOf}
@@ -43,7 +44,7 @@ module _ (kept : List Record) (good : Good kept) where
       let at : ℕ → ℤ = λ j. totals kept .rate (suc (j / sectionSize)) (j % sectionSize / buckets) (j % buckets) in
       section-tabulate at (cells currencies) a sectionSize (omega arith)
       ∙ tabulateFrom-ext at (λ j. pos 0) a sectionSize
-      (λ j m n. let here : suc (j / sectionSize) ≡ c = omega arith in good .bare (suc (j / sectionSize)) (j % sectionSize / buckets) (j % buckets) (ap (curved kept) here ∙ e))
+      (λ j m n. let here : suc (j / sectionSize) ≡ c = omega arith in rate-none (suc (j / sectionSize)) (j % sectionSize / buckets) (j % buckets) kept (ap (curved kept) here ∙ e))
       ∙ tabulateFrom-const (pos 0) a sectionSize
 
   pub arrays-sized : Sized currencies (arraysOf kept)

@@ -1,18 +1,21 @@
 -- The arrays of the records kept: with nothing kept, with one record more, and read back.
 use Prim.Native.Nat.{ℕ, suc, _+_, _*_, _-_, _/_, _%_, _≤_, _<_}
+use mathlib.Core.Bool.{true, false}
 use mathlib.Core.List.{List, [], _∷_, _++_}
 use mathlib.Core.Path.{_≡_, sym, ap, _∙_}
 use native.Mathlib.Nat.{add-zero, div-eq-of-lt, mul-add-div, mul-le-mul-left}
 use native.Mathlib.Omega.{arith}
 use lib.IntN.{ℤ, pos, natAbs, _+ℤ_, +ℤ-idr}
 use lib.ListN.{getD, replicate}
+use Rattle.laws.specs.Tests.{if_then_else_, _is_}
 use Rattle.laws.specs.Sums.{total, totalℤ}
 use Rattle.laws.proofs.Lists.{tabulate-at, tabulate-ext, tabulate-const}
 use Rattle.paper.specs.Ladder.{buckets}
-use Rattle.paper.specs.Records.{Record, currencies, currencyOf}
+use Rattle.paper.specs.Records.{Record, currencies, currencyOf, isCurve}
 use Rattle.paper.specs.Flow.{scenarios, shocked, flow, adds, gives, magnitude}
-use Rattle.paper.specs.Ledger.{sectionSize, cells, ofCurrency, ofCurrencyℤ, totals, soFar, ledgerOf}
+use Rattle.paper.specs.Ledger.{sectionSize, cells, ofCurrency, ofCurrencyℤ, rateOf, totals, soFar, curved, ledgerOf}
 use Rattle.paper.proofs.Limits.{ofCurrency-more, ofCurrencyℤ-more}
+use Rattle.paper.proofs.Rate.{rate-added}
 use Rattle.arrays.specs.Rooms.{cellBy, listed, sizeBy, optionSizeBy}
 use Rattle.arrays.specs.Slots.{plusℤ, withFlows, withRates, withSizes, withAddOns, withOptionSizes}
 use Rattle.arrays.specs.Arrays.{Arrays, byCurrency, arraysOf, inParts, withRecord}
@@ -34,7 +37,7 @@ pub nothing-kept : arraysOf [] ≡ record {
   sizes = replicate (scenarios * currencies) 0;
   optionSizes = replicate (shocked * currencies) 0;
 }
-unfolding arraysOf ledgerOf byCurrency ofCurrency ofCurrencyℤ total totalℤ
+unfolding arraysOf ledgerOf byCurrency rateOf ofCurrency ofCurrencyℤ total totalℤ
 nothing-kept =
     simp (tabulate-const (pos 0) (shocked * currencies), tabulate-const (pos 0) (cells currencies), tabulate-const {A = ℕ} 0 (shocked * currencies), tabulate-const {A = ℕ} 0 (scenarios * currencies))
 
@@ -47,18 +50,18 @@ same-arrays e f g h i = cc
 
 module _ (kept : List Record) (r : Record) (l : 1 ≤ currencyOf r) (h : currencyOf r ≤ currencies) where
   -- by the ledger's rule
-  cells-more : (f : Record → ℕ → ℕ → ℤ) → ledgerOf currencies (λ c i k. ofCurrencyℤ (λ x. f x i k) c (kept ++ (r ∷ [])))
-      ≡ joinedPart (λ part. plusℤ part (λ j. f r (j / buckets) (j % buckets))) sectionSize (currencyOf r) (ledgerOf currencies (λ c i k. ofCurrencyℤ (λ x. f x i k) c kept))
-  cells-more f =
-      ledger-by _
-      ∙ part-more _+ℤ_ (pos 0) +ℤ-idr sectionSize (currencyOf r) _ _ (λ j. f r (j / buckets) (j % buckets)) (omega arith) l h
-      (λ b j _. ofCurrencyℤ-more b kept r (λ x. f x (j / buckets) (j % buckets)))
-      ∙ ap (joinedPart (λ part. plusℤ part (λ j. f r (j / buckets) (j % buckets))) sectionSize (currencyOf r)) (sym (ledger-by (λ c i k. ofCurrencyℤ (λ x. f x i k) c kept)))
+  cells-more : (f : ℕ → ℕ → ℤ) (before after : ℕ → ℕ → ℕ → ℤ) → ((c i k : ℕ) → after c i k ≡ before c i k +ℤ (if currencyOf r is c then f i k else pos 0))
+      → ledgerOf currencies after ≡ joinedPart (λ part. plusℤ part (λ j. f (j / buckets) (j % buckets))) sectionSize (currencyOf r) (ledgerOf currencies before)
+  cells-more f before after more =
+      ledger-by after
+      ∙ part-more _+ℤ_ (pos 0) +ℤ-idr sectionSize (currencyOf r) _ _ (λ j. f (j / buckets) (j % buckets)) (omega arith) l h (λ b j _. more b (j / buckets) (j % buckets))
+      ∙ ap (joinedPart (λ part. plusℤ part (λ j. f (j / buckets) (j % buckets))) sectionSize (currencyOf r)) (sym (ledger-by before))
 
-  pub arrays-more : arraysOf (kept ++ (r ∷ [])) ≡ withRecord r (arraysOf kept)
+  -- a curve finds none of its currency before it
+  pub arrays-more : (isCurve r ≡ true → curved kept (currencyOf r) ≡ false) → arraysOf (kept ++ (r ∷ [])) ≡ withRecord r (arraysOf kept)
   unfolding arraysOf withRecord inParts withFlows withRates withAddOns withSizes withOptionSizes
-  arrays-more =
-      same-arrays (cells-more flow) (cells-more gives)
+  arrays-more fresh =
+      same-arrays (cells-more (flow r) _ _ (λ c i k. ofCurrencyℤ-more c kept r (λ x. flow x i k))) (cells-more (gives r) _ _ (λ c i k. rate-added c i k kept r fresh))
       (part-more _+ℤ_ (pos 0) +ℤ-idr 6 (currencyOf r) _ _ (λ j. adds r (suc j)) (omega arith) l h (λ b j _. ofCurrencyℤ-more b kept r (λ x. adds x (suc j))))
       (part-more _+_ 0 add-zero scenarios (currencyOf r) _ _ (magnitude r) (omega arith) l h (λ b j _. ofCurrency-more b kept r (λ x. magnitude x j)))
       (part-more _+_ 0 add-zero 6 (currencyOf r) _ _ (λ j. natAbs (adds r (suc j))) (omega arith) l h (λ b j _. ofCurrency-more b kept r (λ x. natAbs (adds x (suc j)))))

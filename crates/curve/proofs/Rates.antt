@@ -1,21 +1,19 @@
 -- Shocked rates: bucket by bucket as the code makes them, and their range.
 use Prim.Native.Nat.{ℕ, _≤_, _<_}
-use mathlib.Core.Bool.{Bool, true, false, not}
+use mathlib.Core.Bool.{true, false}
 use mathlib.Core.List.{List}
 use mathlib.Core.Path.{_≡_, sym, ap, _∙_}
-use native.Mathlib.Nat.{mul-le-mul-left}
 use lib.IntN.{ℤ, pos, negℤ}
 use lib.ListN.{getD}
 use lib.Signed.{ltZ}
-use Rattle.laws.proofs.Tests.{all-of, all-not}
-use Rattle.laws.proofs.Nearest.{nearest-le}
+use Rattle.laws.proofs.Tests.{any-at, none-any}
 use Rattle.laws.proofs.Lists.{tabulate-at}
 use Rattle.paper.specs.Scales.{billion}
 use Rattle.paper.specs.Ladder.{buckets}
 use Rattle.paper.specs.Flow.{scenarios, shocked}
 use Rattle.paper.specs.Curve.{Curve, quarter, shortShare, shockedRate}
 use Rattle.paper.specs.TurnedDown.{badRate, badShocked}
-use Rattle.paper.proofs.SeriesLaws.{under-least, over-positive}
+use Rattle.paper.proofs.SeriesLaws.{billion-over-most}
 use Rattle.curve.specs.Shocked.{shortShares}
 
 -- ---- s
@@ -26,7 +24,7 @@ share-at k e h = ap (λ l. getD l k 0) e ∙ tabulate-at shortShare buckets k 0 
 
 pub share-most : (k : ℕ) → shortShare k ≤ billion
 unfolding shortShare
-share-most k = nearest-le (over-positive (quarter k)) (mul-le-mul-left billion (under-least (quarter k)))
+share-most k = billion-over-most (quarter k)
 
 -- ---- the tests of the range
 
@@ -43,13 +41,10 @@ unfolding badRate
 in-range z e h = rw (e, h)
 
 module _ (z : Curve) (k : ℕ) where
-  fine : ℕ → Bool
-  fine i = not (badRate (shockedRate z i k))
-
   pub one-bad : (i : ℕ) → 1 ≤ i → i < scenarios → badRate (shockedRate z i k) ≡ true → true ≡ badShocked z k
-  unfolding badShocked fine
-  one-bad i l h e = sym (ap not (all-not fine 1 shocked i l h (ap not e)))
+  unfolding badShocked
+  one-bad i l h e = sym (any-at (λ j. badRate (shockedRate z j k)) 1 shocked i l h e)
 
   pub none-bad : ((i : ℕ) → 1 ≤ i → i < scenarios → badRate (shockedRate z i k) ≡ false) → false ≡ badShocked z k
-  unfolding badShocked fine
-  none-bad f = sym (ap not (all-of fine 1 shocked (λ i l h. ap not (f i l h))))
+  unfolding badShocked
+  none-bad f = sym (none-any (λ j. badRate (shockedRate z j k)) 1 shocked f)

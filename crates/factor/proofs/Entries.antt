@@ -2,14 +2,12 @@
 use Prim.Native.Nat.{ℕ, _*_, _-_, _^_, _≤_, _<_}
 use mathlib.Core.List.{[]}
 use mathlib.Core.Path.{_≡_, sym, ap, _∙_}
-use native.Mathlib.Nat.{mul-le-mul-left}
 use lib.ListN.{getD}
 use Rattle.laws.specs.Lists.{tabulate}
 use Rattle.laws.proofs.Lists.{tabulate-at, tabulate-ext}
-use Rattle.laws.proofs.Nearest.{nearest-le}
 use Rattle.paper.specs.Scales.{billion}
 use Rattle.paper.specs.Factor.{entry}
-use Rattle.paper.proofs.SeriesLaws.{under-least, over-positive}
+use Rattle.paper.proofs.SeriesLaws.{billion-over-most}
 use Rattle.paper.proofs.FactorTable.{written, entry-written}
 use Rattle.factor.specs.Table.{rows}
 
@@ -23,7 +21,6 @@ unfolding rows
 entry-at w d l m =
     ap (λ r. getD r d 0) (tabulate-at (λ i. tabulate (entry i) 10) 11 w [] l) ∙ tabulate-at (entry w) 10 d 0 m
 
--- E is at least 1
 pub entry-most : (w d : ℕ) → entry w d ≤ billion
 unfolding entry
-entry-most w d = let X = d * 10 ^ (10 - w) in nearest-le (over-positive X) (mul-le-mul-left billion (under-least X))
+entry-most w d = billion-over-most (d * 10 ^ (10 - w))

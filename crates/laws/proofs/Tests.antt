@@ -1,12 +1,13 @@
--- What the value of a test tells of its parts, and what `all` and `first` tell of each number of their run.
+-- What the value of a test tells of its parts, and what `all`, `any` and `first` tell of each number of their run.
 use Prim.Native.Nat.{ℕ, zero, suc, _+_, _≤_, _<_}
-use mathlib.Core.Bool.{Bool, true, false, _&&_, _||_, true≢false}
+use mathlib.Core.Bool.{Bool, true, false, not, _&&_, _||_, true≢false}
 use mathlib.Core.Logic.{_⊎_, inl, inr, ⊎-elim}
 use mathlib.Core.Path.{_≡_, refl, sym, ap, ap₂, _∙_}
 use native.Mathlib.Decide.{decLt}
 use native.Mathlib.Nat.{add-zero, le-refl, eq-or-lt-of-le}
 use native.Mathlib.Omega.{arith}
-use Rattle.laws.specs.Tests.{if_then_else_, all, first}
+use borrow.Author.Tests.{not-true, not-false}
+use Rattle.laws.specs.Tests.{if_then_else_, all, any, first}
 
 pub lt-or-ge : (a b : ℕ) → (a < b) ⊎ (b ≤ a)
 lt-or-ge a b = by (decLt a b)
@@ -83,6 +84,30 @@ all-more p a (suc n) =
     by false h = refl
 
 -- ---- the first number of a run at which a test holds
+
+-- ---- any: what `all` says of the test's opposite
+
+pub any-is : (p : ℕ → Bool) (a n : ℕ) → any p a n ≡ not (all (λ i. not (p i)) a n)
+unfolding any all
+any-is p a zero = refl
+any-is p a (suc n) = by (p a) (any-is p (suc a) n)
+  where
+    by : (b : Bool) → any p (suc a) n ≡ not (all (λ i. not (p i)) (suc a) n)
+        → (if b then true else any p (suc a) n) ≡ not (if not b then all (λ i. not (p i)) (suc a) n else false)
+    by true e = refl
+    by false e = e
+
+pub any-at : (p : ℕ → Bool) (a n i : ℕ) → a ≤ i → i < a + n → p i ≡ true → any p a n ≡ true
+any-at p a n i l h e = any-is p a n ∙ ap not (all-not (λ j. not (p j)) a n i l h (ap not e))
+
+pub any-none : (p : ℕ → Bool) (a n : ℕ) → any p a n ≡ false → (i : ℕ) → a ≤ i → i < a + n → p i ≡ false
+any-none p a n e i l h = not-true (p i) (all-at (λ j. not (p j)) a n (not-false _ (sym (any-is p a n) ∙ e)) i l h)
+
+pub none-any : (p : ℕ → Bool) (a n : ℕ) → ((i : ℕ) → a ≤ i → i < a + n → p i ≡ false) → any p a n ≡ false
+none-any p a n h = any-is p a n ∙ ap not (all-of (λ j. not (p j)) a n (λ i l m. ap not (h i l m)))
+
+pub any-ext : (p q : ℕ → Bool) (a n : ℕ) → ((i : ℕ) → a ≤ i → i < a + n → p i ≡ q i) → any p a n ≡ any q a n
+any-ext p q a n h = any-is p a n ∙ ap not (all-ext (λ i. not (p i)) (λ i. not (q i)) a n (λ i l m. ap not (h i l m))) ∙ sym (any-is q a n)
 
 -- where `first` stops, said so that at most one number does it: all the laws below follow
 pub record Stops (p : ℕ → Bool) (a n k : ℕ) : Type 0 where

@@ -24,6 +24,11 @@ unfoldable pub all : (ℕ → Bool) → ℕ → ℕ → Bool
 all p a zero = true
 all p a (suc n) = if p a then all p (suc a) n else false
 
+-- the test holds at one of them at least
+unfoldable pub any : (ℕ → Bool) → ℕ → ℕ → Bool
+any p a zero = false
+any p a (suc n) = if p a then true else any p (suc a) n
+
 -- the first of the n numbers from a on at which the test holds; a + n where there is none
 unfoldable pub first : (ℕ → Bool) → ℕ → ℕ → ℕ
 first p a zero = a

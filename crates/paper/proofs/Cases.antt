@@ -10,7 +10,7 @@ use Rattle.laws.specs.Nearest.{nearest}
 use Rattle.laws.specs.Lists.{tabulateFrom, tabulate}
 use Rattle.laws.specs.Series.{factorial}
 use Rattle.paper.specs.Ladder.{notAfter, upperEnds, bucketOf, midpoints, midpoint}
-use Rattle.paper.specs.Series.{under, seriesTerm, over}
+use Rattle.paper.specs.Series.{denominator, seriesTerm, numerator, billionOverE}
 use Rattle.paper.specs.Factor.{entry, digit, afterDigits, factor}
 use Rattle.paper.specs.Behaviour.{prepaymentMultipliers, withdrawalMultipliers, behaviouralRate, prepaymentRate, withdrawalRate, paid, prepaid, interest, outstandingAt, scheduledAt, paidAt, prepaidAt, interestAt, loanFlow, moved, termDepositFlow}
 
@@ -24,9 +24,12 @@ factorAt rate bucket = factor (pos (rate * midpoint (bucket - 1)))
 abbrev only : ℕ → ℕ → List ℕ
 only bucket amount = replicate (bucket - 1) 0 ++ (amount ∷ replicate (19 - bucket) 0)
 
--- share 1,000, principal 1,000 and interest 100 in bucket 9: the flows of buckets 1 to 9
+-- share 1,000, principal 1,000 and interest 100 in bucket 9: what buckets 1 to 8 prepay; in bucket 9 what is paid, and the interest; and the flows of buckets 1 to 9
 abbrev loanIn : ℕ → List ℕ
-loanIn scenario = tabulate (loanFlow (prepaymentRate 1000 scenario) (only 9 1000) (only 9 100)) 9
+loanIn scenario =
+    let rate = prepaymentRate 1000 scenario in
+    tabulate (prepaidAt rate (only 9 1000)) 8
+    ++ (paidAt rate (only 9 1000) 8 ∷ interestAt rate (only 9 1000) (only 9 100) 8 ∷ tabulate (loanFlow rate (only 9 1000) (only 9 100)) 9)
 
 -- 1,000 in bucket 6: what scenario 1 puts into bucket 1, and leaves in bucket 6
 abbrev depositIn : ℕ → List ℕ
@@ -43,12 +46,12 @@ table =
       stated = 1 ∷ 2 ∷ 2 ∷ 3 ∷ 18 ∷ 19 ∷ [];
     }
     ∷ record { given = factor (pos 0) ∷ factorAt 40000 19 ∷ factorAt 40000 18 ∷ []; stated = 1000000000 ∷ 367879441 ∷ 496585304 ∷ [] }
-    ∷ record { given = loanIn 0; stated = 100 ∷ 90 ∷ 81 ∷ 72 ∷ 65 ∷ 59 ∷ 53 ∷ 48 ∷ (432 + 43) ∷ [] }
-    ∷ record { given = loanIn 1; stated = 80 ∷ 73 ∷ 67 ∷ 62 ∷ 57 ∷ 52 ∷ 48 ∷ 44 ∷ (517 + 51) ∷ [] }
+    ∷ record { given = loanIn 0; stated = 100 ∷ 90 ∷ 81 ∷ 72 ∷ 65 ∷ 59 ∷ 53 ∷ 48 ∷ 432 ∷ 43 ∷ 100 ∷ 90 ∷ 81 ∷ 72 ∷ 65 ∷ 59 ∷ 53 ∷ 48 ∷ (432 + 43) ∷ [] }
+    ∷ record { given = loanIn 1; stated = 80 ∷ 73 ∷ 67 ∷ 62 ∷ 57 ∷ 52 ∷ 48 ∷ 44 ∷ 517 ∷ 51 ∷ 80 ∷ 73 ∷ 67 ∷ 62 ∷ 57 ∷ 52 ∷ 48 ∷ 44 ∷ (517 + 51) ∷ [] }
     ∷ record { given = depositIn 6000; stated = 720 ∷ 280 ∷ [] }
     ∷ record { given = depositIn 9000; stated = 1000 ∷ 0 ∷ [] }
     ∷ []
 
 pub numbers-hold : map (λ r. r .given) table ≡ map (λ r. r .stated) table
-unfolding table first sum total nearest tabulateFrom factorial notAfter upperEnds bucketOf midpoints under seriesTerm over entry digit afterDigits factor prepaymentMultipliers withdrawalMultipliers behaviouralRate paid prepaid interest outstandingAt scheduledAt paidAt prepaidAt interestAt loanFlow moved termDepositFlow
+unfolding table first sum total nearest tabulateFrom factorial notAfter upperEnds bucketOf midpoints denominator seriesTerm numerator billionOverE entry digit afterDigits factor prepaymentMultipliers withdrawalMultipliers behaviouralRate paid prepaid interest outstandingAt scheduledAt paidAt prepaidAt interestAt loanFlow moved termDepositFlow
 numbers-hold = refl

@@ -5,14 +5,14 @@ use mathlib.Core.Path.{_≡_, refl}
 use mathlib.Core.List.{List, [], _∷_, _++_, map}
 use lib.IntN.{pos, negsuc}
 use lib.ListN.{replicate}
-use Rattle.laws.specs.Tests.{all, first}
+use Rattle.laws.specs.Tests.{any, first}
 use Rattle.laws.specs.Sums.{sum, total}
 use Rattle.laws.specs.Nearest.{nearest, nearestℤ}
 use Rattle.laws.specs.Series.{factorial}
 use Rattle.paper.specs.declared.Refusal.the-variants.{BadCurrency, BadSide, BadTerm, TooLarge, BadShare, BadCategory, CoreAboveCap, CoreTooLong, InterestAlone, SecondCurve, OutOfRange, OverLimit}
 use Rattle.paper.specs.Ladder.{midpoints}
 use Rattle.paper.specs.Refusals.{Checked, accepted, refused, _>>=_, _>>_, unless}
-use Rattle.paper.specs.Series.{under, seriesTerm, over}
+use Rattle.paper.specs.Series.{denominator, seriesTerm, numerator, billionOverE}
 use Rattle.paper.specs.Curve.{shortShare, rateChanges, shockedRate}
 use Rattle.paper.specs.Records.{Record, flows, single, coupons, floating, deposit, loan, termDeposit, option, curve, currencies}
 use Rattle.paper.specs.Behaviour.{weighedCore, scheduledAt}
@@ -83,5 +83,5 @@ bodies =
     ∷ []
 
 pub bodies-mean : map (λ r. r .body) bodies ≡ map (λ r. r .is) bodies
-unfolding bodies rates all first sum total nearest nearestℤ factorial midpoints _>>=_ _>>_ unless under seriesTerm over shortShare rateChanges shockedRate weighedCore scheduledAt badCurrency badSide badMonths badDays badPeriod badCount badAmount badOption badShare badCategory coreAboveCap coreTooLong interestAlone secondCurve badRate badShock badShocked scheduleOver signed field each decodeSingle decodeCoupons decodeFloating decodeDeposit decodeLoan decodeTermDeposit decodeOption decodeCurve decode
+unfolding bodies rates any first sum total nearest nearestℤ factorial midpoints _>>=_ _>>_ unless denominator seriesTerm numerator billionOverE shortShare rateChanges shockedRate weighedCore scheduledAt badCurrency badSide badMonths badDays badPeriod badCount badAmount badOption badShare badCategory coreAboveCap coreTooLong interestAlone secondCurve badRate badShock badShocked scheduleOver signed field each decodeSingle decodeCoupons decodeFloating decodeDeposit decodeLoan decodeTermDeposit decodeOption decodeCurve decode
 bodies-mean = refl

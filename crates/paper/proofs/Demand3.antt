@@ -1,6 +1,7 @@
 -- Demand 3 for every accepted book: its report is true within its tolerances, and its verdict is sound.
 use Prim.Native.Nat.{ℕ}
 use mathlib.Core.List.{List}
+use mathlib.Core.Logic.{_⊎_, inl, inr}
 use mathlib.Core.Path.{_≡_, refl, sym, ap, _∙_}
 use native.Mathlib.Omega.{arith}
 use lib.IntN.{pos}
@@ -18,7 +19,7 @@ use Rattle.paper.proofs.Checks.{known-of}
 use Rattle.paper.proofs.Walk.{Good, outcome-good}
 use Rattle.paper.proofs.ChangeClose.{Rated, exponent-ranged, change-close}
 use Rattle.paper.proofs.MeasureClose.{sum-close, measure-close}
-use Rattle.paper.proofs.VerdictSound.{close-reaches, over-sound, within-sound}
+use Rattle.paper.proofs.VerdictSound.{close-reaches, one-of-three, over-sound, within-sound}
 use Rattle.paper.proofs.Report.{change-reported, sum-reported, measure-reported, tolerance-reported, verdict-reported}
 
 pub rated : {kept : List Record} → Good kept → Rated (totals kept)
@@ -37,6 +38,12 @@ verdict-back Close = refl
 pub one-verdict : (v w : Verdict) → pos (verdictNumber v) ≡ pos (verdictNumber w) → v ≡ w
 one-verdict v w e = let n : verdictNumber v ≡ verdictNumber w = cc in sym (verdict-back v) ∙ ap verdictOf n ∙ verdict-back w
 
+numbered : {v : Verdict} → (v ≡ Over) ⊎ (v ≡ WithinLine) ⊎ (v ≡ Close) → (pos (verdictNumber v) ≡ pos 1) ⊎ (pos (verdictNumber v) ≡ pos 2) ⊎ (pos (verdictNumber v) ≡ pos 3)
+unfolding verdictNumber
+numbered (inl e) = inl (ap (λ (w : Verdict). pos (verdictNumber w)) e)
+numbered (inr (inl e)) = inr (inl (ap (λ (w : Verdict). pos (verdictNumber w)) e))
+numbered (inr (inr e)) = inr (inr (ap (λ (w : Verdict). pos (verdictNumber w)) e))
+
 module _ (top : ℕ) (t : Totals) (rates : Rated t) (T : ℕ) where
   pub report-true : Demand3 top t T (reportOf top t T)
   unfolding reportOf verdictNumber
@@ -49,6 +56,7 @@ module _ (top : ℕ) (t : Totals) (rates : Rated t) (T : ℕ) where
         sums = λ i p n. rw (sum-reported top (change t) u T i p n) (sum-close top t rates i (omega arith));
         measure = rw (measure-reported top (change t) u T) (measure-close top t rates);
         stated = tolerance-reported top (change t) u T;
+        one-of-three = rw said (numbered (one-of-three m u T));
         over = λ e. over-sound top t rates T (one-verdict (verdict m u T) Over (sym said ∙ e));
         within = λ e. within-sound top t rates T (one-verdict (verdict m u T) WithinLine (sym said ∙ e));
         close = rw (measure-reported top (change t) u T, tolerance-reported top (change t) u T) (

@@ -5,18 +5,18 @@ use mathlib.Core.Path.{_≡_, refl, ap, _∙_}
 use mathlib.Core.List.{List, [], _∷_, _++_}
 use lib.IntN.{ℤ, pos, negsuc}
 use lib.ListN.{length, getD, replicate}
-use Rattle.laws.specs.Tests.{all, first}
+use Rattle.laws.specs.Tests.{any, first}
 use Rattle.laws.specs.Sums.{sum, sumℤ, total, totalℤ, some, greatest}
 use Rattle.laws.specs.Nearest.{nearest, nearestℤ, roundedUp}
 use Rattle.laws.specs.Lists.{tabulateFrom}
 use Rattle.laws.specs.Series.{factorial}
 use Rattle.paper.specs.Ladder.{notAfter, upperEnds, bucketOf, midpoints}
 use Rattle.paper.specs.Refusals.{accepted, _>>=_, _>>_, unless}
-use Rattle.paper.specs.Series.{under, seriesTerm, over}
+use Rattle.paper.specs.Series.{denominator, seriesTerm, numerator, billionOverE}
 use Rattle.paper.specs.Curve.{shortShare, rateChanges, shockedRate}
 use Rattle.paper.specs.Records.{Record, flows, single, curve, kinds, bodyLength, currencyOf, isCurve, currencies}
 use Rattle.paper.specs.Flow.{sided, due, flowOf, flow, adds, gives, magnitude}
-use Rattle.paper.specs.Ledger.{ofCurrency, ofCurrencyℤ, totals, used, curved}
+use Rattle.paper.specs.Ledger.{rateOf, ofCurrency, ofCurrencyℤ, totals, used, curved}
 use Rattle.paper.specs.TurnedDown.{unknownKind, cutShort, badCurrency, badSide, badMonths, badDays, badAmount, secondCurve, badRate, badShock, badShocked, flowsOver, optionsOver, overLimit, lacksCurve, badCapital, bookTooLong, roomTooSmall}
 use Rattle.paper.specs.Fields.{signed, field, each}
 use Rattle.paper.specs.Decode.{decodeSingle, decodeCurve, decode}
@@ -38,7 +38,7 @@ kept =
 
 -- the whole walk; capital enters by its own range alone
 example-walked : walk currencies example ≡ accepted kept
-unfolding example kept all first sum total totalℤ some nearest nearestℤ factorial notAfter upperEnds bucketOf midpoints _>>=_ _>>_ unless under seriesTerm over shortShare rateChanges shockedRate kinds bodyLength currencyOf isCurve sided due flowOf flow adds gives magnitude ofCurrency ofCurrencyℤ used curved unknownKind cutShort badCurrency badSide badMonths badDays badAmount secondCurve badRate badShock badShocked flowsOver optionsOver overLimit signed field each decodeSingle decodeCurve decode placed admitted recordAt nextAt walkFrom walk
+unfolding example kept any first sum total totalℤ some nearest nearestℤ factorial notAfter upperEnds bucketOf midpoints _>>=_ _>>_ unless denominator seriesTerm numerator billionOverE shortShare rateChanges shockedRate kinds bodyLength currencyOf isCurve sided due flowOf flow adds gives magnitude ofCurrency ofCurrencyℤ used curved unknownKind cutShort badCurrency badSide badMonths badDays badAmount secondCurve badRate badShock badShocked flowsOver optionsOver overLimit signed field each decodeSingle decodeCurve decode placed admitted recordAt nextAt walkFrom walk
 example-walked = refl
 
 example-short : bookTooLong (length example) ≡ false
@@ -67,7 +67,7 @@ stated verdictIs =
     ++ (pos 632121 ∷ pos 1 ∷ pos 2 ∷ pos verdictIs ∷ [])
 
 changes-are : changesOf currencies (changeBy factorWritten (totals kept)) ≡ changes
-unfolding changes kept sum sumℤ total totalℤ first nearest nearestℤ tabulateFrom factorial notAfter upperEnds bucketOf midpoints under seriesTerm over shortShare rateChanges shockedRate currencyOf sided due flowOf flow adds gives ofCurrency ofCurrencyℤ digit table written afterWritten factorWritten valueBy changeBy exponent changesOf
+unfolding changes kept sum sumℤ total totalℤ first nearest nearestℤ tabulateFrom factorial notAfter upperEnds bucketOf midpoints denominator seriesTerm numerator billionOverE shortShare rateChanges shockedRate currencyOf sided due flowOf flow adds gives isCurve rateOf ofCurrency ofCurrencyℤ digit table written afterWritten factorWritten valueBy changeBy exponent changesOf
 changes-are = refl
 
 tolerance-is : totalTolerance currencies (tolerance (totals kept)) ≡ 2

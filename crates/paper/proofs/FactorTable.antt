@@ -15,7 +15,7 @@ use Rattle.laws.specs.Series.{factorial}
 use Rattle.laws.proofs.Tests.{all-at}
 use Rattle.paper.specs.Scales.{billion}
 use Rattle.paper.specs.Ladder.{buckets}
-use Rattle.paper.specs.Series.{under, seriesTerm, over}
+use Rattle.paper.specs.Series.{denominator, seriesTerm, numerator, billionOverE}
 use Rattle.paper.specs.Factor.{entry, digit, afterDigits, lowStart, lowEnd, factor}
 use Rattle.paper.specs.Ledger.{Totals}
 use Rattle.paper.specs.Change.{exponent, value, change, tolerance}
@@ -45,7 +45,7 @@ rightly : ℕ → Bool
 rightly j = entry (j / 10) (j % 10) is written (j / 10) (j % 10)
 
 each-right : all rightly 0 110 ≡ true
-unfolding rightly written table all entry nearest under over sum seriesTerm factorial
+unfolding rightly written table all entry nearest denominator numerator billionOverE sum seriesTerm factorial
 each-right = refl
 
 pub entry-written : (w d : ℕ) → w < 11 → d < 10 → entry w d ≡ written w d

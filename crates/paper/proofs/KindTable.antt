@@ -14,7 +14,7 @@ use Rattle.paper.specs.Decode.{decodeSingle, decodeCoupons, decodeFloati
 use Rattle.paper.specs.Book.{touchesNothing}
 use Rattle.paper.specs.Sound.{SoundFlows, Sound}
 use Rattle.paper.proofs.Checks.{known, chain, tested, each-known}
-use Rattle.paper.proofs.Ranges.{side-known, months-known, days-known, period-known, count-known, amount-known, option-known, share-known, category-known, shock-known, amounts-known, rates-known, core-within, none-bad, shocked-ranged}
+use Rattle.paper.proofs.Ranges.{side-known, months-known, days-known, period-known, count-known, amount-known, option-known, share-known, category-known, shock-known, amounts-known, rates-known, none-bad, shocked-ranged}
 use Rattle.paper.proofs.KindLaws.{FlowsOnly, AddOnOnly, CurveOnly, Kind, begins, flows-read, FirstField, of-kind, no-kind}
 
 module _ (top : ℕ) (curved : ℕ → Bool) (body : List ℕ) where
@@ -59,7 +59,7 @@ module _ (top : ℕ) (curved : ℕ → Bool) (body : List ℕ) where
       chain (amounts-known body 6) (λ core hs.
       tested _ _ _ _ refl (λ e.
       tested _ _ _ _ refl (λ f.
-      flows-read hc (hg, ha, hs, core-within g a core e)))))))
+      flows-read hc (hg, ha, hs, e, f)))))))
 
   pub loan-kind : Kind top curved FlowsOnly body (decodeLoan top body)
   unfolding decodeLoan SoundFlows scheduleOver touchesNothing numberOf

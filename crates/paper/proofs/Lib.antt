@@ -17,6 +17,7 @@ pub mod Checks
 pub mod Ranges
 pub mod KindLaws
 pub mod KindTable
+pub mod Rate
 pub mod Walk
 -- demand 3: the series, the factor, a change, the measure, the verdict, each against the exact one
 pub mod Terms

@@ -1,16 +1,16 @@
 -- Sums over the records of a currency: one record more; net flows are within the gross ones; admitted records keep both sums of 14 at or
 -- below a billion.
 use Prim.Native.Nat.{ℕ, _+_, _≤_, _<_}
-use mathlib.Core.Bool.{Bool, true, false, not}
+use mathlib.Core.Bool.{Bool, true, false}
 use mathlib.Core.List.{List, [], _∷_, _++_}
 use mathlib.Core.Path.{_≡_, refl, _∙_}
 use native.Mathlib.Nat.{le-trans}
 use native.Mathlib.Omega.{arith}
 use lib.IntN.{ℤ, pos, natAbs, _+ℤ_}
-use borrow.Author.Tests.{eqb-true, ltb-false, not-true, not-false}
-use Rattle.laws.specs.Tests.{if_then_else_, _is_, all}
+use borrow.Author.Tests.{eqb-true, ltb-false}
+use Rattle.laws.specs.Tests.{if_then_else_, _is_, any}
 use Rattle.laws.specs.Sums.{sum, total}
-use Rattle.laws.proofs.Tests.{and-true, all-at}
+use Rattle.laws.proofs.Tests.{or-false, any-none}
 use Rattle.laws.proofs.Sums.{sum-le, sum-nil}
 use Rattle.laws.proofs.Totals.{total-more, totalℤ-more, total-ext, abs-total, sum-total}
 use Rattle.paper.specs.Scales.{billion}
@@ -91,12 +91,10 @@ pub record Room (before : SoFar) (r : Record) : Type 0 where
 pub room-of : (before : SoFar) (r : Record) → overLimit before r ≡ false → Room before r
 unfolding overLimit flowsOver optionsOver
 room-of before r e =
-    let flowsFit : ℕ → Bool = λ i. not (flowsOver before r i) in
-    let optionsFit : ℕ → Bool = λ i. not (optionsOver before r i) in
-    let both = and-true (all flowsFit 0 7) (all optionsFit 1 6) (not-false _ e) in
+    let neither = or-false (any (flowsOver before r) 0 7) (any (optionsOver before r) 1 6) e in
     record {
-      size = λ i l. ltb-false _ _ (not-true _ (all-at flowsFit 0 7 (both .0) i (omega arith) l));
-      optionSize = λ i p l. ltb-false _ _ (not-true _ (all-at optionsFit 1 6 (both .1) i p l));
+      size = λ i l. ltb-false _ _ (any-none (flowsOver before r) 0 7 (neither .0) i (omega arith) l);
+      optionSize = λ i p l. ltb-false _ _ (any-none (optionsOver before r) 1 6 (neither .1) i p l);
     }
 
 pub limited-more : {kept : List Record} (r : Record) → Limited kept → overLimit (soFar kept) r ≡ false → Limited (kept ++ (r ∷ []))

@@ -3,13 +3,13 @@ use Prim.Native.Nat.{ℕ}
 use mathlib.Core.Path.{_≡_, refl}
 use mathlib.Core.List.{List, [], _∷_, _++_, map}
 use lib.ListN.{length, replicate}
-use Rattle.laws.specs.Tests.{all, first}
+use Rattle.laws.specs.Tests.{any, first}
 use Rattle.laws.specs.Sums.{sum, total, totalℤ, some}
 use Rattle.laws.specs.Nearest.{nearest, nearestℤ}
 use Rattle.laws.specs.Series.{factorial}
 use Rattle.paper.specs.Ladder.{notAfter, upperEnds, bucketOf, midpoints}
 use Rattle.paper.specs.Refusals.{Checked, accepted, refused, numberOf, _>>=_, _>>_, unless}
-use Rattle.paper.specs.Series.{under, seriesTerm, over}
+use Rattle.paper.specs.Series.{denominator, seriesTerm, numerator, billionOverE}
 use Rattle.paper.specs.Curve.{shortShare, rateChanges, shockedRate}
 use Rattle.paper.specs.Records.{Record, kinds, bodyLength, currencyOf, isCurve, currencies}
 use Rattle.paper.specs.Behaviour.{prepaymentMultipliers, withdrawalMultipliers, behaviouralRate, weighedCore, depositFlow, paid, prepaid, interest, outstandingAt, scheduledAt, paidAt, prepaidAt, interestAt, loanFlow, moved, termDepositFlow}
@@ -84,5 +84,5 @@ books =
     ∷ []
 
 pub books-end : map (λ r. r .gives) books ≡ map (λ r. r .stated) books
-unfolding books ends roomed endingOf rates all first sum total totalℤ some nearest nearestℤ factorial notAfter upperEnds bucketOf midpoints numberOf _>>=_ _>>_ unless under seriesTerm over shortShare rateChanges shockedRate kinds bodyLength currencyOf isCurve prepaymentMultipliers withdrawalMultipliers behaviouralRate weighedCore depositFlow paid prepaid interest outstandingAt scheduledAt paidAt prepaidAt interestAt loanFlow moved termDepositFlow sided due couponsDue flowOf flow adds magnitude ofCurrency used curved unknownKind cutShort badCurrency badSide badMonths badDays badPeriod badCount badAmount badOption badShare badCategory coreAboveCap coreTooLong interestAlone secondCurve badRate badShock badShocked scheduleOver flowsOver optionsOver overLimit lacksCurve badCapital bookTooLong roomTooSmall signed field each decodeSingle decodeCoupons decodeFloating decodeDeposit decodeLoan decodeTermDeposit decodeOption decodeCurve decode placed admitted recordAt nextAt walkFrom walk covered outcome
+unfolding books ends roomed endingOf rates any first sum total totalℤ some nearest nearestℤ factorial notAfter upperEnds bucketOf midpoints numberOf _>>=_ _>>_ unless denominator seriesTerm numerator billionOverE shortShare rateChanges shockedRate kinds bodyLength currencyOf isCurve prepaymentMultipliers withdrawalMultipliers behaviouralRate weighedCore depositFlow paid prepaid interest outstandingAt scheduledAt paidAt prepaidAt interestAt loanFlow moved termDepositFlow sided due couponsDue flowOf flow adds magnitude ofCurrency used curved unknownKind cutShort badCurrency badSide badMonths badDays badPeriod badCount badAmount badOption badShare badCategory coreAboveCap coreTooLong interestAlone secondCurve badRate badShock badShocked scheduleOver flowsOver optionsOver overLimit lacksCurve badCapital bookTooLong roomTooSmall signed field each decodeSingle decodeCoupons decodeFloating decodeDeposit decodeLoan decodeTermDeposit decodeOption decodeCurve decode placed admitted recordAt nextAt walkFrom walk covered outcome
 books-end = refl

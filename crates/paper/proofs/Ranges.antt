@@ -9,10 +9,10 @@ use native.Mathlib.Omega.{arith}
 use lib.IntN.{ℤ, pos, negℤ, +ℤ-idr}
 use lib.ListN.{getD}
 use lib.Signed.{ltZ}
-use borrow.Author.Tests.{leb-true, ltb-false, eqb-true, not-true, not-false}
-use Rattle.laws.specs.Tests.{_is_, _upTo_, _below_, all, first}
+use borrow.Author.Tests.{leb-true, ltb-false, eqb-true, not-false}
+use Rattle.laws.specs.Tests.{_is_, _upTo_, _below_, first}
 use Rattle.laws.specs.Sums.{sumOf}
-use Rattle.laws.proofs.Tests.{and-true, or-true, or-false, all-at, first-to, first-none}
+use Rattle.laws.proofs.Tests.{and-true, or-true, or-false, any-none, first-to, first-none}
 use Rattle.laws.proofs.Integers.{side}
 use Rattle.laws.proofs.Order.{ltZ-false}
 use Rattle.paper.specs.Refusals.{numberOf}
@@ -36,7 +36,7 @@ between-tested low high x e =
 up-to-tested : (high x : ℕ) → (high below x) ≡ false → Between 0 high x
 up-to-tested high x e = record { from = omega arith; to = ltb-false high x e }
 
-period-range : (p : ℕ) → badPeriod p ≡ false → Between 1 12 p
+pub period-range : (p : ℕ) → badPeriod p ≡ false → Between 1 12 p
 unfolding badPeriod
 period-range p e =
     ⊎-elim (λ u. ⊎-elim (λ v. ⊎-elim (this 1 (omega arith) (omega arith)) (this 3 (omega arith) (omega arith)) (or-true (p is 1) (p is 3) v))
@@ -81,9 +81,9 @@ module _ (body : List ℕ) (o : ℕ) where
   unfolding badDays touchesNothing numberOf
   days-known = field-known (up-to-tested 30) _ _ _ refl
 
-  pub period-known : Checks Clears (Between 1 12) (periodAt body o)
+  pub period-known : Checks Clears (λ p. badPeriod p ≡ false) (periodAt body o)
   unfolding touchesNothing numberOf
-  period-known = field-known period-range _ _ _ refl
+  period-known = field-known (λ p e. e) _ _ _ refl
 
   pub count-known : (period : ℕ) → Checks Clears (Counted period) (countAt period body o)
   unfolding touchesNothing numberOf
@@ -145,11 +145,8 @@ pub shocked-ranged : (z : Curve) → Listed Ranged buckets (z .rates) → ((k : 
 unfolding shockedRate rateChanges badShocked
 shocked-ranged z base ok i k l m = ⊎-elim still moved (eq-zero-or-pos i)
   where
-    fits : ℕ → Bool
-    fits j = not (badRate (shockedRate z j k))
-
     still : i ≡ 0 → Ranged (shockedRate z i k)
     still e = rw e (rw (+ℤ-idr (getD (z .rates) k (pos 0))) (base .at (pos 0) k m))
 
     moved : 0 < i → Ranged (shockedRate z i k)
-    moved p = rate-range (shockedRate z i k) (not-true _ (all-at fits 1 6 (not-false (all fits 1 6) (ok k m)) i p l))
+    moved p = rate-range (shockedRate z i k) (any-none (λ j. badRate (shockedRate z j k)) 1 6 (ok k m) i p l)

@@ -11,7 +11,7 @@ use Rattle.laws.specs.Lists.{tabulateFrom}
 use Rattle.paper.specs.Scales.{billion}
 use Rattle.laws.specs.Series.{factorial}
 use Rattle.paper.specs.Ladder.{midpoints}
-use Rattle.paper.specs.Series.{under, seriesTerm, over}
+use Rattle.paper.specs.Series.{denominator, seriesTerm, numerator, billionOverE}
 use Rattle.paper.specs.Curve.{shortShare, rateChanges}
 use Rattle.paper.specs.Records.{currencies}
 use Rattle.paper.specs.Change.{toleranceOf}
@@ -74,5 +74,5 @@ table =
     ∷ []
 
 pub rules-hold : map (λ r. r .given) table ≡ map (λ r. r .stated) table
-unfolding table first sum greatest nearest nearestℤ roundedUp tabulateFrom factorial midpoints under seriesTerm over shortShare rateChanges toleranceOf scenarioSum measure worst verdict verdictNumber
+unfolding table first sum greatest nearest nearestℤ roundedUp tabulateFrom factorial midpoints denominator seriesTerm numerator billionOverE shortShare rateChanges toleranceOf scenarioSum measure worst verdict verdictNumber
 rules-hold = refl

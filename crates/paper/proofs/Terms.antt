@@ -4,17 +4,17 @@ use mathlib.Core.Path.{_≡_, refl}
 use Rattle.laws.specs.Series.{factorial, cleared, exponentialTop, exponentialBottom}
 use Rattle.laws.proofs.Terms.{cleared-literal}
 use Rattle.paper.specs.Scales.{exponentScale}
-use Rattle.paper.specs.Series.{under, seriesTerm, over}
+use Rattle.paper.specs.Series.{denominator, seriesTerm, numerator}
 
--- a term over `under` is X^j over (10^10)^j j!
-pub term-is : (X j : ℕ) → j ≤ 64 → seriesTerm X j * (exponentScale ^ j * factorial j) ≡ X ^ j * under
-unfolding seriesTerm cleared under exponentialBottom
+-- a term over `denominator` is X^j over (10^10)^j j!
+pub term-is : (X j : ℕ) → j ≤ 64 → seriesTerm X j * (exponentScale ^ j * factorial j) ≡ X ^ j * denominator
+unfolding seriesTerm cleared denominator exponentialBottom
 term-is X j h = cleared-literal exponentScale 64 X j h
 
-pub over-is : (X : ℕ) → over X ≡ exponentialTop exponentScale 64 X
-unfolding over exponentialTop seriesTerm cleared
-over-is X = refl
+pub numerator-is : (X : ℕ) → numerator X ≡ exponentialTop exponentScale 64 X
+unfolding numerator exponentialTop seriesTerm cleared
+numerator-is X = refl
 
-pub under-is : under ≡ exponentialBottom exponentScale 64
-unfolding under exponentialBottom
-under-is = refl
+pub denominator-is : denominator ≡ exponentialBottom exponentScale 64
+unfolding denominator exponentialBottom
+denominator-is = refl

@@ -1,10 +1,10 @@
 -- The book is walked record by record, first byte to last. Its outcome is the list of the records kept, or the first refusal with its place.
 use Prim.Native.Nat.{ℕ, zero, suc, _+_}
-use mathlib.Core.Bool.{Bool}
+use mathlib.Core.Bool.{Bool, _||_}
 use mathlib.Core.List.{List, [], _∷_, _++_}
 use lib.IntN.{ℤ, pos}
 use lib.ListN.{length, take, drop, replicate}
-use Rattle.laws.specs.Tests.{if_then_else_, _upTo_, first}
+use Rattle.laws.specs.Tests.{if_then_else_, _is_, _upTo_, first}
 use Rattle.paper.specs.declared.Refusal.{Refusal}
 use Rattle.paper.specs.declared.Refusal.the-variants.{UnknownKind, CutShort, OverLimit, NoCurve, BadCapital, BookTooLong, RoomTooSmall}
 use Rattle.paper.specs.Refusals.{numberOf, Checked, accepted, refused, _>>=_, _>>_, unless, refuseIf}
@@ -67,9 +67,9 @@ module _ (top : ℕ) where
 
 -- ---- what the report and the ledger hold at exit; cells beyond 58 and 1,064 are untouched
 
--- 16 to 18 touch nothing
+-- 16, 17 and 18 touch nothing
 unfoldable pub touchesNothing : Refusal → Bool
-touchesNothing r = 16 upTo numberOf r
+touchesNothing r = numberOf r is numberOf BadCapital || numberOf r is numberOf BookTooLong || numberOf r is numberOf RoomTooSmall
 
 unfoldable pub reportAfter : ℕ → Checked (List Record) → ℕ → List ℤ → List ℤ
 reportAfter top (accepted kept) T report = reportOf top (totals kept) T ++ drop (figures top) report

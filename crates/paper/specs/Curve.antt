@@ -3,10 +3,10 @@ use Prim.Native.Nat.{ℕ, _*_, _/_}
 use mathlib.Core.List.{List, [], _∷_}
 use lib.IntN.{ℤ, pos, negℤ, _+ℤ_, _-ℤ_, _*ℤ_}
 use lib.ListN.{getD}
-use Rattle.laws.specs.Nearest.{nearest, nearestℤ}
+use Rattle.laws.specs.Nearest.{nearestℤ}
 use Rattle.paper.specs.Scales.{yearScale, exponentScale, billion}
 use Rattle.paper.specs.Ladder.{midpoint}
-use Rattle.paper.specs.Series.{over, under}
+use Rattle.paper.specs.Series.{billionOverE}
 
 pub record Shocks : Type 0 where
   pub parallel : ℕ
@@ -21,9 +21,9 @@ pub record Curve : Type 0 where
 abbrev pub quarter : ℕ → ℕ
 quarter k = midpoint k * (exponentScale / (4 * yearScale))
 
--- s: the nearest whole number to a billion over E(midpoint in years / 4), halves up
+-- s: a billion over E(midpoint in years / 4)
 unfoldable pub shortShare : ℕ → ℕ
-shortShare k = nearest (billion * under) (over (quarter k))
+shortShare k = billionOverE (quarter k)
 
 -- the changes of scenarios 1 to 6, after none for the base; p, h, g are the parallel, short and long shocks
 unfoldable pub rateChanges : Shocks → ℕ → List ℤ

@@ -2,7 +2,7 @@
 -- and "close" exactly where the tolerance reaches the line.
 use Prim.Native.Nat.{ℕ, _*_, _≤_}
 use mathlib.Core.List.{List}
-use mathlib.Core.Logic.{_↔_}
+use mathlib.Core.Logic.{_⊎_, _↔_}
 use mathlib.Core.Path.{_≡_}
 use lib.IntN.{ℤ, pos, _+ℤ_, _-ℤ_, _*ℤ_}
 use lib.ListN.{getD}
@@ -23,6 +23,8 @@ pub record Demand3 (top : ℕ) (t : Totals) (T : ℕ) (report : List ℤ) : Type
   pub sums : (i : ℕ) → 1 ≤ i → i ≤ 6 → Within (overCurrencies top (λ c. tolerance t c i)) (figure report (sumAt top i)) (exactSum top t i)
   pub measure : Within (totalTolerance top (tolerance t)) (figure report (measureAt top)) (exactMeasure top t)
   pub stated : figure report (toleranceAt top) ≡ pos (totalTolerance top (tolerance t))
+  -- the verdict is one of the three
+  pub one-of-three : (figure report (verdictAt top) ≡ pos 1) ⊎ (figure report (verdictAt top) ≡ pos 2) ⊎ (figure report (verdictAt top) ≡ pos 3)
   -- 1 over: 100 times the exact measure is above 15T
   pub over : figure report (verdictAt top) ≡ pos 1 → whole (pos (15 * T)) <ℚ (pos 100 *ℚ exactMeasure top t)
   -- 2 within: it is at most 15T

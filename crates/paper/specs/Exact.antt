@@ -5,14 +5,14 @@ use lib.IntN.{ℤ, pos, negsuc}
 use Rattle.laws.specs.Ratio.{Ratio, whole, _+ℚ_, _-ℚ_, _*ℚ_, _/ℚ_, positive, sumℚ, greatestℚ}
 use Rattle.paper.specs.Scales.{billion}
 use Rattle.paper.specs.Ladder.{buckets}
-use Rattle.paper.specs.Series.{over, under}
+use Rattle.paper.specs.Series.{numerator, denominator}
 use Rattle.paper.specs.Ledger.{Totals}
 use Rattle.paper.specs.Change.{exponent}
 
 -- a billion over E(x) for x at least 0, a billion times E(-x) below it
 unfoldable pub exactFactor : ℤ → Ratio
-exactFactor (pos X) = record { num = pos (billion * under); den = over X }
-exactFactor (negsuc n) = record { num = pos (billion * over (suc n)); den = under }
+exactFactor (pos X) = record { num = pos (billion * denominator); den = numerator X }
+exactFactor (negsuc n) = record { num = pos (billion * numerator (suc n)); den = denominator }
 
 unfoldable pub exactValue : Totals → ℕ → ℕ → Ratio
 exactValue t c i = sumℚ (λ k. t .cell c i k *ℚ exactFactor (exponent (t .rate c i k) k)) buckets

@@ -4,11 +4,11 @@ use lib.IntN.{ℤ, pos, negsuc, negℤ}
 use lib.Signed.{_≤ℤ_}
 use Rattle.laws.specs.Nearest.{nearest}
 use Rattle.paper.specs.Scales.{billion}
-use Rattle.paper.specs.Series.{over, under}
+use Rattle.paper.specs.Series.{billionOverE}
 
--- the table entry for the digit d of weight 10^-w: the nearest whole number to a billion over E(d 10^-w), halves up
+-- the table entry for the digit d of weight 10^-w: a billion over E(d 10^-w)
 unfoldable pub entry : ℕ → ℕ → ℕ
-entry w d = nearest (billion * under) (over (d * 10 ^ (10 - w)))
+entry w d = billionOverE (d * 10 ^ (10 - w))
 
 -- Y's digit of weight 10^-w, w from 0 to 10
 unfoldable pub digit : ℕ → ℕ → ℕ

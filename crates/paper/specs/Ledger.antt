@@ -1,7 +1,7 @@
 -- A book means the list of the records kept. What they come to is, number by number, a sum over the records of one currency.
 use Prim.Native.Nat.{ℕ, suc, _+_, _*_, _/_, _%_}
 use mathlib.Core.Bool.{Bool, not, _&&_}
-use mathlib.Core.List.{List}
+use mathlib.Core.List.{List, [], _∷_}
 use lib.IntN.{ℤ, pos, natAbs}
 use Rattle.laws.specs.Tests.{if_then_else_, _is_}
 use Rattle.laws.specs.Sums.{total, totalℤ, some}
@@ -24,12 +24,16 @@ pub record Totals : Type 0 where
   pub addOn : ℕ → ℕ → ℤ
   pub rate : ℕ → ℕ → ℕ → ℤ
 
--- a currency has one curve at most, so its rate is a sum too
+-- a currency's rate is its curve's own, of which 12 lets in one; without a curve it reads as 0
+unfoldable pub rateOf : List Record → ℕ → ℕ → ℕ → ℤ
+rateOf [] c i k = pos 0
+rateOf (r ∷ kept) c i k = if currencyOf r is c && isCurve r then gives r i k else rateOf kept c i k
+
 abbrev pub totals : List Record → Totals
 totals kept = record {
   cell = λ c i k. ofCurrencyℤ (λ r. flow r i k) c kept;
   addOn = λ c i. ofCurrencyℤ (λ r. adds r i) c kept;
-  rate = λ c i k. ofCurrencyℤ (λ r. gives r i k) c kept;
+  rate = rateOf kept;
 }
 
 -- ---- what a further record is tested against

@@ -1,21 +1,32 @@
--- In the order of document 01. Each file cites only those above it.
+-- Document 01, section by section.
+
+-- What the product covers
 pub mod Scales
+-- Time ladder
 pub mod Ladder
-pub mod Refusals
-pub mod Series
-pub mod Curve
+-- Records: the kinds and their bodies, and what each puts into a scenario and a bucket
 pub mod Records
-pub mod Behaviour
-pub mod Flow
-pub mod Ledger
-pub mod TurnedDown
 pub mod Fields
 pub mod Decode
-pub mod Sound
+pub mod Behaviour
+pub mod Flow
+-- Curves and shocks
+pub mod Series
+pub mod Curve
+-- Discount factor, in billionths
 pub mod Factor
+-- From flows to verdict, and demand 3
+pub mod Ledger
 pub mod Change
 pub mod Verdict
-pub mod Book
 pub mod Exact
 pub mod Demand3
+-- Turned down: the numbers, the circumstance of each, and their order in a book
+pub mod Refusals
+pub mod TurnedDown
+pub mod Book
+-- The report program
 pub mod Program
+
+-- no part of 01: what is known of an accepted record
+pub mod Sound

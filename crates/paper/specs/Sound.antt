@@ -1,4 +1,5 @@
--- What an accepted record is known to be: its fields lie in their ranges. Contracts ask it of what was decoded.
+-- No part of 01: what follows from it of an accepted record, whose fields lie in their ranges. Contracts ask it of what was decoded; that every accepted record has it
+-- is a theorem, `every-record`.
 use Prim.Native.Nat.{ℕ, _+_, _*_, _≤_, _<_}
 use mathlib.Core.Bool.{Bool, false}
 use mathlib.Core.List.{List}
@@ -11,7 +12,7 @@ use Rattle.paper.specs.Scales.{billion}
 use Rattle.paper.specs.Ladder.{buckets, Term}
 use Rattle.paper.specs.Curve.{Curve, shockedRate}
 use Rattle.paper.specs.Records.{Flows, single, coupons, floating, deposit, loan, termDeposit, Record, flows, option, curve}
-use Rattle.paper.specs.TurnedDown.{interestAlone}
+use Rattle.paper.specs.TurnedDown.{badPeriod, coreAboveCap, coreTooLong, interestAlone}
 
 -- ---- fields
 
@@ -48,9 +49,9 @@ SoundTerm t = Between 0 600 (t .months) × Between 0 30 (t .days)
 unfoldable pub SoundFlows : Flows → Type 0
 SoundFlows (single side term amount) = Between 1 2 side × SoundTerm term × Between 0 billion amount
 SoundFlows (coupons side period count coupon principal) =
-    Between 1 2 side × Between 1 12 period × Counted period count × Between 0 billion coupon × Between 0 billion principal
+    Between 1 2 side × (badPeriod period ≡ false) × Counted period count × Between 0 billion coupon × Between 0 billion principal
 SoundFlows (floating side reset principal coupon) = Between 1 2 side × SoundTerm reset × Between 0 billion principal × Between 0 billion coupon
-SoundFlows (deposit category whole core) = Between 1 3 category × Between 0 billion whole × Amounts core × (sumOf core ≤ whole)
+SoundFlows (deposit category whole core) = Between 1 3 category × Between 0 billion whole × Amounts core × (coreAboveCap category whole core ≡ false) × (coreTooLong category core ≡ false)
 SoundFlows (loan share principals interests) =
     Between 0 10000 share × Amounts principals × Amounts interests × ((k : ℕ) → k < buckets → interestAlone principals interests k ≡ false)
     × (sumOf principals + sumOf interests ≤ billion)

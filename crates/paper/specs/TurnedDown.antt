@@ -5,7 +5,7 @@ use mathlib.Core.List.{List}
 use lib.IntN.{ℤ, pos, negℤ, natAbs}
 use lib.Signed.{ltZ}
 use lib.ListN.{getD}
-use Rattle.laws.specs.Tests.{_is_, _upTo_, _below_, all}
+use Rattle.laws.specs.Tests.{_is_, _upTo_, _below_, any}
 use Rattle.laws.specs.Sums.{sumOf}
 use Rattle.paper.specs.Scales.{billion}
 use Rattle.paper.specs.Curve.{Curve, shockedRate}
@@ -83,7 +83,7 @@ badShock shock = 1000 below shock
 
 -- in some scenario in bucket k + 1
 unfoldable pub badShocked : Curve → ℕ → Bool
-badShocked z k = not (all (λ i. not (badRate (shockedRate z i k))) 1 6)
+badShocked z k = any (λ i. badRate (shockedRate z i k)) 1 6
 
 -- 14: magnitudes of one currency in one scenario above 1,000,000,000 over all records so far, this one too: flows, and likewise options
 unfoldable pub flowsOver : SoFar → Record → ℕ → Bool
@@ -93,7 +93,7 @@ unfoldable pub optionsOver : SoFar → Record → ℕ → Bool
 optionsOver before r i = billion below before .optionSize (currencyOf r) i + natAbs (adds r i)
 
 unfoldable pub overLimit : SoFar → Record → Bool
-overLimit before r = not (all (λ i. not (flowsOver before r i)) 0 7 && all (λ i. not (optionsOver before r i)) 1 6)
+overLimit before r = any (flowsOver before r) 0 7 || any (optionsOver before r) 1 6
 
 -- 14: likewise all scheduled amounts of one kind 5 record
 unfoldable pub scheduleOver : List ℕ → List ℕ → Bool

@@ -5,14 +5,14 @@ use Rattle.laws.specs.Nearest.{nearest}
 use Rattle.laws.specs.Lists.{tabulateFrom}
 use Rattle.laws.specs.Series.{factorial}
 use Rattle.paper.specs.Ladder.{midpoints}
-use Rattle.paper.specs.Series.{under, seriesTerm, over}
+use Rattle.paper.specs.Series.{denominator, seriesTerm, numerator, billionOverE}
 use Rattle.paper.specs.Curve.{shortShare}
 use Rattle.curve.specs.Shocked.{shortShares}
 use Rattle.curve.proofs.short_shares.Statement.{statement}
 use Rattle.curve.proofs.short_shares.Tie as tie
 
 returns : tie.Need-returns
-unfolding shortShares tabulateFrom shortShare midpoints nearest under over seriesTerm factorial sum
+unfolding shortShares tabulateFrom shortShare midpoints nearest denominator numerator billionOverE seriesTerm factorial sum
 returns c = refl
 
 pub short-shares-spec : {M : Type 1} → statement M
