@@ -1,5 +1,6 @@
 // The face of `assess` for callers in other languages: numbers and slices only. It is a crate of its own, because the archive proves its crate once more.
 ghost use mathlib.Core.Path.{_≡_};
+ghost use Rattle.book.specs.Assessed.{Truthful};
 ghost use Rattle.face.specs.Face.{Faces, withPlace};
 use book::assess::Assessed;
 use book::assess::assess;
@@ -24,6 +25,7 @@ pub extern "C" fn vorlegan_assess(
     place: &mut [u64],
 ) -> u32
     ensures { λ r. ⌜ Faces (now (book .entry)) tier1 report ledger place r ⌝ }
+    ensures { λ r. ⌜ Truthful (now (book .entry)) tier1 (now (report .entry)) (now (ledger .entry)) (now (report .exit)) ⌝ }
 {
     match assess(book, tier1, report, ledger) {
         Assessed::Reported(_) => {

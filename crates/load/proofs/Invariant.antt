@@ -20,7 +20,7 @@ use Rattle.arrays.specs.Arrays.{Arrays, arraysOf, withRecord, Holding}
 use Rattle.arrays.proofs.More.{arrays-more, size-is, optionSize-is}
 use Rattle.arrays.proofs.Bounds.{holding}
 use Rattle.arrays.proofs.Sets.{MasksOf, masks-none, masks-more}
-use Rattle.arrays.proofs.Agree.{Agree, record-agrees, sound-currency}
+use Rattle.arrays.proofs.Agree.{Agree, record-agrees, sound-currency, sound-fresh}
 use Rattle.load.specs.declared.turn.Step.{Step}
 use Rattle.load.specs.declared.turn.Step.the-variants.{Refused}
 use Rattle.posting.specs.Answers.{into}
@@ -112,7 +112,7 @@ module _ (book : List ℕ) (a : Arrays) (at : ℕ) (m : Masks) (w : Walking book
           fuel = pred (w .fuel);
           more = omega (arith, sub-one (w .fuel), w .more, forward);
           same = ap (λ (n : ℕ). walkFrom currencies (pred (w .fuel)) book n (w .kept ++ (r ∷ []))) forward ∙ goes (accepted r) read;
-          arrays = s .arrays ∙ ap (λ (y : Checked Record). into withRecord y a) read ∙ ap (withRecord r) (w .arrays) ∙ sym (arrays-more (w .kept) r (c .from) (c .to));
+          arrays = s .arrays ∙ ap (λ (y : Checked Record). into withRecord y a) read ∙ ap (withRecord r) (w .arrays) ∙ sym (arrays-more (w .kept) r (c .from) (c .to) (sound-fresh (curved (w .kept)) r (p .sound)));
           masks = rw marks (masks-more m (w .kept) r (c .from) (c .to) (w .masks));
           good = good-more r (w .good) p;
         }

@@ -19,6 +19,7 @@ use Rattle.laws.proofs.Tests.{and-true, all-at, lt-or-ge}
 use Rattle.paper.specs.Ladder.{buckets, Term, inMonths, notAfter, upperEnds, bucketOf}
 use Rattle.paper.specs.Records.{coupons, flows}
 use Rattle.paper.specs.Flow.{sided, due, couponsDue, flowOf, flow}
+use Rattle.paper.proofs.Ranges.{period-range}
 use Rattle.paper.proofs.Buckets.{in-bucket}
 use Rattle.paper.proofs.Magnitudes.{due-once, coupons-add-up}
 use Rattle.paper.specs.Sound.{SoundFlows}
@@ -159,5 +160,5 @@ module _ (period count coupon : ℕ) where
 pub size-small : (side period count coupon principal : ℕ) → SoundFlows (coupons side period count coupon principal) → count * coupon + principal ≤ trillion
 unfolding SoundFlows
 size-small side period count coupon principal h =
-    let few : count ≤ 600 = omega (arith, mul-le-mul-right count (h .1 .from), h .2 .last) in
+    let few : count ≤ 600 = omega (arith, mul-le-mul-right count (period-range period (h .1) .from), h .2 .last) in
     omega (arith, mul-le-mul few (h .3 .to), h .4 .to)

@@ -1,5 +1,6 @@
 -- `take_deposit`: refused by its decoder, or a row of core and rest entered.
-use Prim.Native.Nat.{ℕ}
+use Prim.Native.Nat.{ℕ, _≤_}
+use Rattle.laws.specs.Sums.{sumOf}
 use Rattle.paper.specs.Ladder.{buckets}
 use Rattle.paper.specs.Behaviour.{depositFlow}
 use Rattle.paper.specs.Decode.{decodeDeposit}
@@ -18,6 +19,7 @@ use borrow.Author.Needs.{needs}
 use Rattle.paper.specs.Refusals.{accepted}
 use Rattle.paper.specs.Records.{flows, currencies}
 use Rattle.paper.specs.Sound.{SoundFlows}
+use Rattle.paper.proofs.Ranges.{core-within}
 use Rattle.paper.proofs.KindTable.{deposit-kind}
 use Rattle.record.specs.declared.deposit.Deposit.{Deposit}
 use Rattle.posting.proofs.Admission.{flows-refused, flows-sound}
@@ -40,6 +42,10 @@ module _ (c : tie.After-known-told2) where
   sound : SoundFlows (depositOf body fields)
   sound = flows-sound (λ _. false) (deposit-kind currencies (λ _. false) body .sound) read
 
+  within : sumOf (amountsFrom body 6) ≤ fields .total
+  unfolding SoundFlows
+  within = core-within (fields .category) (fields .total) (amountsFrom body 6) (sound .3)
+
 decode-deposit-requires : tie.Need-decode-deposit-requires
 decode-deposit-requires c κs = c .before .before .pre .0
 
@@ -59,7 +65,7 @@ core-row-requires : tie.Need-core-row-requires
 unfolding SoundFlows
 core-row-requires c κs =
     let w = c .before .before in
-    ((w .before .before .before .before .before .before .pre .0 .long, sound w .1 .to, refl), (amounts-small (sound w .2), sound w .3))
+    ((w .before .before .before .before .before .before .pre .0 .long, sound w .1 .to, refl), (amounts-small (sound w .2), within w))
 
 slice-aggregate-enter-row : tie.Need-slice-aggregate-enter-row
 slice-aggregate-enter-row c = search needs
@@ -73,7 +79,7 @@ enter-row-requires c κs =
     let filled = c .before .before .before .before .core-row .ensures in (
       (
         row-long (depositFlow whole core) buckets filled,
-        row-small (depositFlow whole core) buckets trillion filled (λ k l. omega (arith, core-small whole core (amounts-few (body w) 6) (sound w .3) k l, sound w .1 .to)),
+        row-small (depositFlow whole core) buckets trillion filled (λ k l. omega (arith, core-small whole core (amounts-few (body w) 6) (within w) k l, sound w .1 .to)),
         omega (arith, sound w .1 .to),
       ),
       w .before .before .before .before .before .before .pre .1,
@@ -96,7 +102,7 @@ returns-2 c =
     let d = fields w in
     let core = amountsFrom (body w) 6 in
     row-taken _ (read w) 2 (w .before .before .before .before .before .before .pre .1) (depositFlow (d .total) core) (d .total) (c .before .before .before .before .before .before .before .before .core-row .ensures) (core-flow (d .currency) (d .category) (d .total) core)
-    (λ i. size-deposit (d .currency) i (d .category) (d .total) core (amounts-few (body w) 6) (sound w .3)) (c .before .before .before .enter-row .ensures)
+    (λ i. size-deposit (d .currency) i (d .category) (d .total) core (amounts-few (body w) 6) (within w)) (c .before .before .before .enter-row .ensures)
 
 pub take-deposit-spec : {M : Type 1} → statement M
 take-deposit-spec =

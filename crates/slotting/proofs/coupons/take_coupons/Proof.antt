@@ -16,6 +16,7 @@ use borrow.Author.Needs.{needs}
 use Rattle.paper.specs.Refusals.{accepted}
 use Rattle.paper.specs.Records.{flows, currencies}
 use Rattle.paper.specs.Sound.{SoundFlows}
+use Rattle.paper.proofs.Ranges.{period-range}
 use Rattle.paper.proofs.KindTable.{coupons-kind}
 use Rattle.record.specs.declared.coupons.Coupons.{Coupons}
 use Rattle.posting.proofs.Admission.{flows-refused, flows-sound}
@@ -69,7 +70,7 @@ slice-aggregate-coupon-row c = search needs
 
 coupon-row-requires : tie.Need-coupon-row-requires
 unfolding SoundFlows
-coupon-row-requires c κs = let p = sound (c .before .before .before .before) in (p .1 .from, p .2 .last, p .3 .to, refl)
+coupon-row-requires c κs = let p = sound (c .before .before .before .before) in (period-range _ (p .1) .from, p .2 .last, p .3 .to, refl)
 
 slice-aggregate-enter-row : tie.Need-slice-aggregate-enter-row
 slice-aggregate-enter-row c = search needs
