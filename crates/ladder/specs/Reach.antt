@@ -6,7 +6,7 @@ use Rattle.paper.specs.Ladder.{midpoint}
 use Rattle.paper.specs.Change.{exponent}
 use Rattle.paper.specs.Factor.{InRange}
 
--- the midpoint of some bucket
+-- the midpoint of some bucket; past the last it reads as 0
 abbrev pub OnLadder : ℤ → Type 0
 OnLadder years = (k : ℕ) × (years ≡ pos (midpoint k))
 

@@ -24,12 +24,14 @@ factorAt rate bucket = factor (pos (rate * midpoint (bucket - 1)))
 abbrev only : ℕ → ℕ → List ℕ
 only bucket amount = replicate (bucket - 1) 0 ++ (amount ∷ replicate (19 - bucket) 0)
 
--- share 1,000, principal 1,000 and interest 100 in bucket 9: what buckets 1 to 8 prepay; in bucket 9 what is paid, and the interest; and the flows of buckets 1 to 9
+-- share 1,000, principal 1,000 and interest 100 in bucket 9: the flows of buckets 1 to 8; of bucket 9 what is paid, prepaid and due as interest, and its flow
 abbrev loanIn : ℕ → List ℕ
 loanIn scenario =
     let rate = prepaymentRate 1000 scenario in
-    tabulate (prepaidAt rate (only 9 1000)) 8
-    ++ (paidAt rate (only 9 1000) 8 ∷ interestAt rate (only 9 1000) (only 9 100) 8 ∷ tabulate (loanFlow rate (only 9 1000) (only 9 100)) 9)
+    let principals = only 9 1000 in
+    let interests = only 9 100 in
+    tabulate (loanFlow rate principals interests) 8
+    ++ (paidAt rate principals 8 ∷ prepaidAt rate principals 8 ∷ interestAt rate principals interests 8 ∷ loanFlow rate principals interests 8 ∷ [])
 
 -- 1,000 in bucket 6: what scenario 1 puts into bucket 1, and leaves in bucket 6
 abbrev depositIn : ℕ → List ℕ
@@ -46,8 +48,8 @@ table =
       stated = 1 ∷ 2 ∷ 2 ∷ 3 ∷ 18 ∷ 19 ∷ [];
     }
     ∷ record { given = factor (pos 0) ∷ factorAt 40000 19 ∷ factorAt 40000 18 ∷ []; stated = 1000000000 ∷ 367879441 ∷ 496585304 ∷ [] }
-    ∷ record { given = loanIn 0; stated = 100 ∷ 90 ∷ 81 ∷ 72 ∷ 65 ∷ 59 ∷ 53 ∷ 48 ∷ 432 ∷ 43 ∷ 100 ∷ 90 ∷ 81 ∷ 72 ∷ 65 ∷ 59 ∷ 53 ∷ 48 ∷ (432 + 43) ∷ [] }
-    ∷ record { given = loanIn 1; stated = 80 ∷ 73 ∷ 67 ∷ 62 ∷ 57 ∷ 52 ∷ 48 ∷ 44 ∷ 517 ∷ 51 ∷ 80 ∷ 73 ∷ 67 ∷ 62 ∷ 57 ∷ 52 ∷ 48 ∷ 44 ∷ (517 + 51) ∷ [] }
+    ∷ record { given = loanIn 0; stated = 100 ∷ 90 ∷ 81 ∷ 72 ∷ 65 ∷ 59 ∷ 53 ∷ 48 ∷ 432 ∷ 0 ∷ 43 ∷ (432 + 43) ∷ [] }
+    ∷ record { given = loanIn 1; stated = 80 ∷ 73 ∷ 67 ∷ 62 ∷ 57 ∷ 52 ∷ 48 ∷ 44 ∷ 517 ∷ 0 ∷ 51 ∷ (517 + 51) ∷ [] }
     ∷ record { given = depositIn 6000; stated = 720 ∷ 280 ∷ [] }
     ∷ record { given = depositIn 9000; stated = 1000 ∷ 0 ∷ [] }
     ∷ []

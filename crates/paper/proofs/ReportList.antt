@@ -1,5 +1,5 @@
 -- The report's list of changes says what the changes by currency and scenario say, and a report depends on nothing else of them.
-use Prim.Native.Nat.{ℕ, suc, _+_, _*_, _-_, _/_, _%_, _≤_}
+use Prim.Native.Nat.{ℕ, suc, _*_, _/_, _%_, _≤_}
 use mathlib.Core.List.{List}
 use mathlib.Core.Path.{_≡_, sym, ap, ap₂, _∙_}
 use native.Mathlib.Omega.{arith}

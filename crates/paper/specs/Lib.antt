@@ -27,6 +27,5 @@ pub mod TurnedDown
 pub mod Book
 -- The report program
 pub mod Program
-
 -- no part of 01: what is known of an accepted record
 pub mod Sound
