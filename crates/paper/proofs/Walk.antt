@@ -5,14 +5,12 @@ use mathlib.Core.List.{List, [], _∷_, _++_, append-assoc, append-nil}
 use mathlib.Core.Path.{_≡_, refl, sym, subst}
 use native.Mathlib.Omega.{arith}
 use lib.ListN.{length, take, drop}
-use borrow.Author.Tests.{le-leb, leb-false, eq-eqb}
+use borrow.Author.Tests.{le-leb, leb-false}
 use Rattle.laws.specs.Tests.{if_then_else_, _is_, _upTo_}
 use Rattle.laws.proofs.Totals.{some-more}
 use Rattle.paper.specs.Ladder.{buckets}
 use Rattle.paper.specs.Refusals.{numberOf, Checked, accepted, refused, _>>=_}
-use Rattle.paper.specs.Curve.{Curve, shockedRate}
-use Rattle.paper.specs.Records.{Record, curve, currencyOf, isCurve, bodyLength}
-use Rattle.paper.specs.Flow.{gives}
+use Rattle.paper.specs.Records.{Record, currencyOf, isCurve, bodyLength}
 use Rattle.paper.specs.Ledger.{rateOf, totals, soFar, curved}
 use Rattle.paper.specs.TurnedDown.{overLimit}
 use Rattle.paper.specs.Fields.{byte}
@@ -21,7 +19,7 @@ use Rattle.paper.specs.Sound.{Ranged, Sound}
 use Rattle.paper.proofs.Checks.{Checks, Known, Clears, known, known-of, weaker, forget, chain, tested, unless-known, either, placed-known}
 use Rattle.paper.proofs.KindTable.{first-field}
 use Rattle.paper.proofs.Limits.{Limited, limited-none, limited-more}
-use Rattle.paper.proofs.Rate.{rate-past, rate-more, nil-ranged, own-ranged}
+use Rattle.paper.proofs.Rate.{rate-more, nil-ranged, own-ranged}
 
 -- a record that was let in after those before it: its fields are as they should be, its currency had no curve if it is one, and 14 has room for it
 pub record Passed (top : ℕ) (before : List Record) (r : Record) : Type 0 where
@@ -114,12 +112,6 @@ module _ (top : ℕ) where
       -- what every record of an accepted book is
       pub every-record : (before after : List Record) (r : Record) → kept ≡ before ++ (r ∷ after) → Passed top before r
       every-record before after r split = each-at [] before after r (rw split at (known-of outcome-each kept e))
-
-      -- a currency's rate is that of its curve, whichever the list has
-      pub own-rate : (before after : List Record) (c : ℕ) (z : Curve) → kept ≡ before ++ (curve c z ∷ after) → (i k : ℕ) → totals kept .rate c i k ≡ shockedRate z i k
-      unfolding rateOf gives currencyOf isCurve Sound
-      own-rate before after c z split i k =
-          rw (split, rate-past c i k before (curve c z ∷ after) (every-record before after (curve c z) split .sound .1 .fresh), eq-eqb c c refl)
 
 -- ---- the fuel is never short: any that is no less than the bytes left comes to the same
 
