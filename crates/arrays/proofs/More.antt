@@ -13,7 +13,7 @@ use Rattle.paper.specs.Records.{Record, currencies, currencyOf}
 use Rattle.paper.specs.Flow.{scenarios, shocked, flow, adds, gives, magnitude}
 use Rattle.paper.specs.Ledger.{sectionSize, cells, ofCurrency, ofCurrencyℤ, totals, soFar, ledgerOf}
 use Rattle.paper.proofs.Limits.{ofCurrency-more, ofCurrencyℤ-more}
-use Rattle.arrays.specs.Rooms.{cellBy, addOnBy, sizeBy, optionSizeBy}
+use Rattle.arrays.specs.Rooms.{cellBy, listed, sizeBy, optionSizeBy}
 use Rattle.arrays.specs.Slots.{plusℤ, withFlows, withRates, withSizes, withAddOns, withOptionSizes}
 use Rattle.arrays.specs.Arrays.{Arrays, byCurrency, arraysOf, inParts, withRecord}
 use Rattle.arrays.proofs.Parts.{joinedPart, start-is, part-more}
@@ -93,8 +93,8 @@ module _ (kept : List Record) (c i : ℕ) (l : 1 ≤ c) (h : c ≤ currencies) w
   unfolding sizeBy arraysOf
   size-is m = by-at 0 scenarios (soFar kept .size) c i (omega arith) l h m
 
-  pub addOn-is : 1 ≤ i → i ≤ 6 → addOnBy (arraysOf kept .addOns) c i ≡ totals kept .addOn c i
-  unfolding addOnBy arraysOf
+  pub addOn-is : 1 ≤ i → i ≤ 6 → listed (arraysOf kept .addOns) c i ≡ totals kept .addOn c i
+  unfolding listed arraysOf
   addOn-is p m =
       let same : suc (i - 1) ≡ i = omega arith in
       by-at (pos 0) 6 (λ d j. totals kept .addOn d (suc j)) c (i - 1) (omega arith) l h (omega arith) ∙ ap (totals kept .addOn c) same

@@ -14,8 +14,9 @@ use Rattle.arrays.specs.Masks.{curvedBy}
 unfoldable pub cellBy : List ℤ → ℕ → ℕ → ℕ → ℤ
 cellBy ledger c i k = getD ledger (sectionSize * (c - 1) + buckets * i + k) (pos 0)
 
-unfoldable pub addOnBy : List ℤ → ℕ → ℕ → ℤ
-addOnBy addOns c i = getD addOns (6 * (c - 1) + (i - 1)) (pos 0)
+-- an add-on, a change or a tolerance, where its list has six a currency, scenarios 1 to 6
+unfoldable pub listed : List ℤ → ℕ → ℕ → ℤ
+listed list c i = getD list (6 * (c - 1) + (i - 1)) (pos 0)
 
 unfoldable pub sizeBy : List ℕ → ℕ → ℕ → ℕ
 sizeBy sizes c i = getD sizes (scenarios * (c - 1) + i) 0
@@ -24,7 +25,7 @@ unfoldable pub optionSizeBy : List ℕ → ℕ → ℕ → ℕ
 optionSizeBy sizes c i = getD sizes (6 * (c - 1) + (i - 1)) 0
 
 abbrev pub totalsBy : (ledger addOns rates : List ℤ) → Totals
-totalsBy ledger addOns rates = record { cell = cellBy ledger; addOn = addOnBy addOns; rate = cellBy rates }
+totalsBy ledger addOns rates = record { cell = cellBy ledger; addOn = listed addOns; rate = cellBy rates }
 
 abbrev pub soFarBy : (curved : ℕ) → (sizes optionSizes : List ℕ) → SoFar
 soFarBy curved sizes optionSizes = record { curved = curvedBy curved; size = sizeBy sizes; optionSize = optionSizeBy optionSizes }

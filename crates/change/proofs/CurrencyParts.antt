@@ -11,7 +11,7 @@ use Rattle.paper.specs.Ladder.{buckets}
 use Rattle.paper.specs.Flow.{scenarios, shocked}
 use Rattle.paper.specs.Ledger.{sectionSize}
 use Rattle.paper.specs.Change.{netSize, tolerance}
-use Rattle.arrays.specs.Rooms.{cellBy, addOnBy, totalsBy}
+use Rattle.arrays.specs.Rooms.{cellBy, listed, totalsBy}
 use Rattle.change.proofs.Agreement.{SameRow, SameCurrency}
 
 -- a value needs no add-ons, and a size no rates either
@@ -33,8 +33,8 @@ part-cell part i k =
     let place : sectionSize * (1 - 1) + buckets * i + k ≡ buckets * i + k = omega arith in
     ap (λ (j : ℕ). getD part j (pos 0)) place
 
-pub part-addOn : (part : List ℤ) (i : ℕ) → addOnBy part 1 (i + 1) ≡ getD part i (pos 0)
-unfolding addOnBy
+pub part-addOn : (part : List ℤ) (i : ℕ) → listed part 1 (i + 1) ≡ getD part i (pos 0)
+unfolding listed
 part-addOn part i =
     let place : shocked * (1 - 1) + (i + 1 - 1) ≡ i = omega arith in
     ap (λ (j : ℕ). getD part j (pos 0)) place
@@ -45,8 +45,8 @@ module _ (ledger rates addOns : List ℤ) (c : ℕ) where
   unfolding cellBy
   cell-at l i k m n = section-place (sectionSize * c) sectionSize l _ _ (pos 0) (omega arith) (omega arith)
 
-  addOn-at : (i : ℕ) → 1 ≤ i → i ≤ shocked → addOnBy addOns (c + 1) i ≡ addOnBy (section (shocked * c) shocked addOns) 1 i
-  unfolding addOnBy
+  addOn-at : (i : ℕ) → 1 ≤ i → i ≤ shocked → listed addOns (c + 1) i ≡ listed (section (shocked * c) shocked addOns) 1 i
+  unfolding listed
   addOn-at i p m = section-place (shocked * c) shocked addOns _ _ (pos 0) (omega arith) (omega arith)
 
   pub part-of : SameCurrency (totalsBy ledger addOns rates) (c + 1)

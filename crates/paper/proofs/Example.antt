@@ -1,10 +1,10 @@
 -- The worked example of 01, from its bytes to its report, at the four values of T: an accepted book for each verdict.
 use Prim.Native.Nat.{ℕ}
 use mathlib.Core.Bool.{false}
-use mathlib.Core.Path.{_≡_, refl, ap₂, _∙_}
+use mathlib.Core.Path.{_≡_, refl, ap, _∙_}
 use mathlib.Core.List.{List, [], _∷_, _++_}
 use lib.IntN.{ℤ, pos, negsuc}
-use lib.ListN.{length, replicate}
+use lib.ListN.{length, getD, replicate}
 use Rattle.laws.specs.Tests.{all, first}
 use Rattle.laws.specs.Sums.{sum, sumℤ, total, totalℤ, some, greatest}
 use Rattle.laws.specs.Nearest.{nearest, nearestℤ, roundedUp}
@@ -22,7 +22,7 @@ use Rattle.paper.specs.Fields.{signed, field, each}
 use Rattle.paper.specs.Decode.{decodeSingle, decodeCurve, decode}
 use Rattle.paper.specs.Factor.{digit}
 use Rattle.paper.specs.Change.{exponent, netSize, toleranceOf, tolerance}
-use Rattle.paper.specs.Verdict.{scenarioSum, measure, worst, totalTolerance, verdict, verdictNumber, changesOf, listed, reportFrom, reportOf}
+use Rattle.paper.specs.Verdict.{scenarioSum, measure, worst, totalTolerance, verdict, verdictNumber, changesOf, changeAt, reportFrom, reportOf}
 use Rattle.paper.proofs.FactorTable.{table, written, afterWritten, factorWritten, valueBy, changeBy, report-written}
 use Rattle.paper.specs.Book.{placed, admitted, recordAt, nextAt, walkFrom, walk, covered, outcome}
 
@@ -75,8 +75,8 @@ unfolding kept sum totalℤ first greatest roundedUp notAfter upperEnds bucketOf
 tolerance-is = refl
 
 report-is : (T : ℕ) → reportOf currencies (totals kept) T ≡ stated (verdictNumber (verdict 632121 2 T))
-unfolding stated changes sum greatest first tabulateFrom scenarioSum measure worst listed reportFrom
-report-is T = report-written currencies (totals kept) T ∙ ap₂ (λ (l : List ℤ) (u : ℕ). reportFrom currencies l u T) changes-are tolerance-is
+unfolding stated changes sum greatest first tabulateFrom scenarioSum measure worst changesOf reportFrom
+report-is T = report-written currencies (totals kept) changes changes-are T ∙ ap (λ (u : ℕ). reportFrom currencies (λ c i. getD changes (changeAt c i) (pos 0)) u T) tolerance-is
 
 -- the book is accepted at T, and its report is as stated, with the verdict's number
 pub record Reports (T number : ℕ) : Type 0 where

@@ -3,7 +3,7 @@
 use Prim.Native.Nat.{ℕ, zero, suc, _+_, _*_, _-_, _/_, _%_, _≤_, _<_}
 use mathlib.Core.Bool.{Bool, true}
 use mathlib.Core.List.{List, [], _∷_}
-use mathlib.Core.Path.{_≡_, refl, ap, fun-ext}
+use mathlib.Core.Path.{_≡_, refl, ap, fun-ext, _∙_}
 use native.Mathlib.Omega.{arith}
 use borrow.Author.Tests.{eqb-true}
 use lib.IntN.{ℤ, pos, negsuc, _+ℤ_, _-ℤ_, _*ℤ_}
@@ -19,7 +19,8 @@ use Rattle.paper.specs.Series.{under, seriesTerm, over}
 use Rattle.paper.specs.Factor.{entry, digit, afterDigits, lowStart, lowEnd, factor}
 use Rattle.paper.specs.Ledger.{Totals}
 use Rattle.paper.specs.Change.{exponent, value, change, tolerance}
-use Rattle.paper.specs.Verdict.{totalTolerance, changesOf, reportFrom, reportOf}
+use Rattle.paper.specs.Verdict.{totalTolerance, changesOf, changeAt, reportFrom, reportOf}
+use Rattle.paper.proofs.ReportList.{report-by-list}
 
 -- a row for each weight, from 10^0 down to 10^-10, and in it the digits 0 to 9
 unfoldable pub table : List ℕ
@@ -87,10 +88,8 @@ pub change-written : (t : Totals) → change t ≡ changeBy factorWritten t
 unfolding change changeBy value valueBy
 change-written t = ap (λ (by : ℤ → ℕ). changeBy by t) (fun-ext factor-written)
 
-pub changes-written : (top : ℕ) (t : Totals) → changesOf top (change t) ≡ changesOf top (changeBy factorWritten t)
-changes-written top t = ap (changesOf top) (change-written t)
-
-pub report-written : (top : ℕ) (t : Totals) (T : ℕ)
-    → reportOf top t T ≡ reportFrom top (changesOf top (changeBy factorWritten t)) (totalTolerance top (tolerance t)) T
+-- a report, from the list of the changes that the written table gives
+pub report-written : (top : ℕ) (t : Totals) (list : List ℤ) → changesOf top (changeBy factorWritten t) ≡ list
+    → (T : ℕ) → reportOf top t T ≡ reportFrom top (λ c i. getD list (changeAt c i) (pos 0)) (totalTolerance top (tolerance t)) T
 unfolding reportOf
-report-written top t T = ap (λ (list : List ℤ). reportFrom top list (totalTolerance top (tolerance t)) T) (changes-written top t)
+report-written top t list e T = report-by-list top (change t) list (ap (changesOf top) (change-written t) ∙ e) (totalTolerance top (tolerance t)) T

@@ -8,8 +8,8 @@ use lib.ListN.{length, getD, List·getD-append}
 use lib.Seq.{getD-append-add}
 use Rattle.laws.specs.Lists.{tabulateFrom}
 use Rattle.laws.proofs.Lists.{tabulate-length, tabulateFrom-length, tabulateFrom-at}
-use Rattle.paper.specs.Verdict.{scenarioSum, measure, worst, verdict, verdictNumber, changesOf, changeAt, listed, reportFrom, sumAt, measureAt, worstAt, toleranceAt, verdictAt}
-use Rattle.paper.proofs.ReportList.{change-listed, sum-listed, measure-listed, worst-listed}
+use Rattle.paper.specs.Verdict.{scenarioSum, measure, worst, verdict, verdictNumber, changesOf, changeAt, reportFrom, sumAt, measureAt, worstAt, toleranceAt, verdictAt}
+use Rattle.paper.proofs.ReportList.{change-at}
 
 -- a number past the first of two lists
 past : (xs ys : List ℤ) (n j : ℕ) → length xs ≡ n → getD (xs ++ ys) (n + j) (pos 0) ≡ getD ys j (pos 0)
@@ -18,18 +18,16 @@ past xs ys n j e = ap (λ (m : ℕ). getD (xs ++ ys) (m + j) (pos 0)) (sym e) �
 -- the three pieces of the report: the changes, the sums, the last four
 module _ (top : ℕ) (changes : ℕ → ℕ → ℤ) (u T : ℕ) where
   abbrev pub report : List ℤ
-  report = reportFrom top (changesOf top changes) u T
+  report = reportFrom top changes u T
 
   sumOf' : ℕ → ℤ
-  sumOf' i = pos (scenarioSum top (listed (changesOf top changes)) i)
+  sumOf' i = pos (scenarioSum top changes i)
 
   sums : List ℤ
   sums = tabulateFrom sumOf' 1 6
 
   lastFour : List ℤ
-  lastFour =
-      let measured = measure top (listed (changesOf top changes)) in
-      pos measured ∷ pos (worst top (listed (changesOf top changes))) ∷ pos u ∷ pos (verdictNumber (verdict measured u T)) ∷ []
+  lastFour = pos (measure top changes) ∷ pos (worst top changes) ∷ pos u ∷ pos (verdictNumber (verdict (measure top changes) u T)) ∷ []
 
   pieces : report ≡ changesOf top changes ++ (sums ++ lastFour)
   unfolding reportFrom sums sumOf' lastFour
@@ -44,10 +42,9 @@ module _ (top : ℕ) (changes : ℕ → ℕ → ℤ) (u T : ℕ) where
   six = tabulateFrom-length sumOf' 1 6
 
   pub change-reported : (c i : ℕ) → 1 ≤ c → c ≤ top → 1 ≤ i → i ≤ 6 → getD report (changeAt c i) (pos 0) ≡ changes c i
-  unfolding listed
   change-reported c i l h p m =
       rw pieces
-      (List·getD-append (changesOf top changes) (sums ++ lastFour) (pos 0) (changeAt c i) (omega (arith, long)) ∙ change-listed top changes c i l h p m)
+      (List·getD-append (changesOf top changes) (sums ++ lastFour) (pos 0) (changeAt c i) (omega (arith, long)) ∙ change-at top changes c i l h p m)
 
   pub sum-reported : (i : ℕ) → 1 ≤ i → i ≤ 6 → getD report (sumAt top i) (pos 0) ≡ pos (scenarioSum top changes i)
   unfolding sums sumOf'
@@ -57,15 +54,13 @@ module _ (top : ℕ) (changes : ℕ → ℕ → ℤ) (u T : ℕ) where
       (past (changesOf top changes) (sums ++ lastFour) (6 * top) (i - 1) long
       ∙ List·getD-append sums lastFour (pos 0) (i - 1) (omega (arith, six))
       ∙ tabulateFrom-at sumOf' 1 6 (i - 1) (pos 0) (omega arith)
-      ∙ ap sumOf' same
-      ∙ ap pos (sum-listed top changes i p m))
+      ∙ ap sumOf' same)
 
   last : (j : ℕ) → getD report (6 * top + (6 + j)) (pos 0)
       ≡ getD (pos (measure top changes) ∷ pos (worst top changes) ∷ pos u ∷ pos (verdictNumber (verdict (measure top changes) u T)) ∷ []) j (pos 0)
   unfolding lastFour
   last j =
-      rw (pieces, ← measure-listed top changes, ← worst-listed top changes)
-      (past (changesOf top changes) (sums ++ lastFour) (6 * top) (6 + j) long ∙ past sums lastFour 6 j six)
+      rw pieces (past (changesOf top changes) (sums ++ lastFour) (6 * top) (6 + j) long ∙ past sums lastFour 6 j six)
 
   pub measure-reported : getD report (measureAt top) (pos 0) ≡ pos (measure top changes)
   measure-reported = last 0

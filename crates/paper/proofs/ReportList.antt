@@ -1,38 +1,55 @@
--- The report's list of changes says what the definitions by currency and scenario say.
+-- The report's list of changes says what the changes by currency and scenario say, and a report depends on nothing else of them.
 use Prim.Native.Nat.{ℕ, suc, _+_, _*_, _-_, _/_, _%_, _≤_}
-use mathlib.Core.Path.{_≡_, ap, ap₂, _∙_}
+use mathlib.Core.List.{List}
+use mathlib.Core.Path.{_≡_, sym, ap, ap₂, _∙_}
 use native.Mathlib.Omega.{arith}
 use lib.IntN.{ℤ, pos}
+use lib.ListN.{getD}
 use Rattle.laws.specs.Tests.{if_then_else_, _is_}
 use Rattle.laws.specs.Integers.{up}
 use Rattle.laws.proofs.Tests.{first-ext}
 use Rattle.laws.proofs.Sums.{sum-ext, greatest-ext}
-use Rattle.laws.proofs.Lists.{tabulate-at}
-use Rattle.paper.specs.Verdict.{scenarioSum, measure, worst, changesOf, listed}
+use Rattle.laws.proofs.Lists.{tabulate-at, tabulate-ext, tabulateFrom-ext}
+use Rattle.paper.specs.Verdict.{scenarioSum, measure, worst, changesOf, changeAt, reportFrom}
 
-module _ (top : ℕ) (changes : ℕ → ℕ → ℤ) where
-  pub change-listed : (c i : ℕ) → 1 ≤ c → c ≤ top → 1 ≤ i → i ≤ 6 → listed (changesOf top changes) c i ≡ changes c i
-  unfolding listed changesOf
-  change-listed c i c1 most i1 i6 =
-      let j = 6 * (c - 1) + (i - 1) in
-      let currency : suc (j / 6) ≡ c = omega arith in
-      let scenario : suc (j % 6) ≡ i = omega arith in
-      tabulate-at (λ m. changes (suc (m / 6)) (suc (m % 6))) (6 * top) j (pos 0) (omega arith) ∙ ap₂ changes currency scenario
+pub change-at : (top : ℕ) (changes : ℕ → ℕ → ℤ) (c i : ℕ) → 1 ≤ c → c ≤ top → 1 ≤ i → i ≤ 6 → getD (changesOf top changes) (changeAt c i) (pos 0) ≡ changes c i
+unfolding changesOf
+change-at top changes c i c1 most i1 i6 =
+    let j = changeAt c i in
+    let currency : suc (j / 6) ≡ c = omega arith in
+    let scenario : suc (j % 6) ≡ i = omega arith in
+    tabulate-at (λ m. changes (suc (m / 6)) (suc (m % 6))) (6 * top) j (pos 0) (omega arith) ∙ ap₂ changes currency scenario
 
-  pub sum-listed : (i : ℕ) → 1 ≤ i → i ≤ 6 → scenarioSum top (listed (changesOf top changes)) i ≡ scenarioSum top changes i
+-- changes that agree on all currencies and scenarios
+module _ (top : ℕ) (f g : ℕ → ℕ → ℤ) (same : (c i : ℕ) → 1 ≤ c → c ≤ top → 1 ≤ i → i ≤ 6 → f c i ≡ g c i) where
+  pub sum-same : (i : ℕ) → 1 ≤ i → i ≤ 6 → scenarioSum top f i ≡ scenarioSum top g i
   unfolding scenarioSum
-  sum-listed i i1 i6 =
-      sum-ext (λ c. up (listed (changesOf top changes) (suc c) i)) (λ c. up (changes (suc c) i)) top
-      (λ c l. ap up (change-listed (suc c) i (omega arith) l i1 i6))
+  sum-same i i1 i6 = sum-ext (λ c. up (f (suc c) i)) (λ c. up (g (suc c) i)) top (λ c l. ap up (same (suc c) i (omega arith) l i1 i6))
 
-  pub measure-listed : measure top (listed (changesOf top changes)) ≡ measure top changes
+  pub measure-same : measure top f ≡ measure top g
   unfolding measure
-  measure-listed = greatest-ext (scenarioSum top (listed (changesOf top changes))) (scenarioSum top changes) 6 sum-listed
+  measure-same = greatest-ext (scenarioSum top f) (scenarioSum top g) 6 sum-same
 
-  pub worst-listed : worst top (listed (changesOf top changes)) ≡ worst top changes
+  worst-same : worst top f ≡ worst top g
   unfolding worst
-  worst-listed =
-      rw measure-listed
-      (ap (λ (i : ℕ). if measure top changes is 0 then 0 else i)
-      (first-ext (λ i. scenarioSum top (listed (changesOf top changes)) i is measure top changes) (λ i. scenarioSum top changes i is measure top changes) 1 6
-      (λ i i1 i6. ap (λ (s : ℕ). s is measure top changes) (sum-listed i i1 (omega arith)))))
+  worst-same =
+      rw measure-same
+      (ap (λ (i : ℕ). if measure top g is 0 then 0 else i)
+      (first-ext (λ i. scenarioSum top f i is measure top g) (λ i. scenarioSum top g i is measure top g) 1 6
+      (λ i i1 i6. ap (λ (s : ℕ). s is measure top g) (sum-same i i1 (omega arith)))))
+
+  changes-same : changesOf top f ≡ changesOf top g
+  unfolding changesOf
+  changes-same = tabulate-ext _ _ (6 * top) (λ j l. same (suc (j / 6)) (suc (j % 6)) (omega arith) (omega arith) (omega arith) (omega arith))
+
+  pub report-same : (u T : ℕ) → reportFrom top f u T ≡ reportFrom top g u T
+  unfolding reportFrom
+  report-same u T =
+      rw (measure-same, worst-same, changes-same, tabulateFrom-ext (λ i. pos (scenarioSum top f i)) (λ i. pos (scenarioSum top g i)) 1 6 (λ i i1 i6. ap pos (sum-same i i1 (omega arith))))
+
+-- the same report, from the list of its changes
+pub report-by-list : (top : ℕ) (changes : ℕ → ℕ → ℤ) (list : List ℤ) → changesOf top changes ≡ list
+    → (u T : ℕ) → reportFrom top changes u T ≡ reportFrom top (λ c i. getD list (changeAt c i) (pos 0)) u T
+report-by-list top changes list e =
+    report-same top changes (λ c i. getD list (changeAt c i) (pos 0))
+    (λ c i c1 most i1 i6. sym (change-at top changes c i c1 most i1 i6) ∙ ap (λ (l : List ℤ). getD l (changeAt c i) (pos 0)) e)

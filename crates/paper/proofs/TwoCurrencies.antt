@@ -1,10 +1,10 @@
 -- A book in two currencies, a gain in one and a loss in the other: no currency, record or scenario may be left out of its report.
 use Prim.Native.Nat.{ℕ}
 use mathlib.Core.Bool.{false}
-use mathlib.Core.Path.{_≡_, refl, ap₂, _∙_}
+use mathlib.Core.Path.{_≡_, refl, ap, _∙_}
 use mathlib.Core.List.{List, [], _∷_, _++_}
 use lib.IntN.{ℤ, pos, negsuc}
-use lib.ListN.{length, replicate}
+use lib.ListN.{length, getD, replicate}
 use Rattle.laws.specs.Tests.{all, first}
 use Rattle.laws.specs.Sums.{sum, sumℤ, total, totalℤ, some, greatest}
 use Rattle.laws.specs.Nearest.{nearest, nearestℤ, roundedUp}
@@ -22,7 +22,7 @@ use Rattle.paper.specs.Fields.{signed, field, each}
 use Rattle.paper.specs.Decode.{decodeSingle, decodeCurve, decode}
 use Rattle.paper.specs.Factor.{digit}
 use Rattle.paper.specs.Change.{exponent, netSize, toleranceOf, tolerance}
-use Rattle.paper.specs.Verdict.{scenarioSum, measure, worst, totalTolerance, verdict, verdictNumber, changesOf, listed, reportFrom, reportOf}
+use Rattle.paper.specs.Verdict.{scenarioSum, measure, worst, totalTolerance, verdict, verdictNumber, changesOf, changeAt, reportFrom, reportOf}
 use Rattle.paper.specs.Book.{placed, admitted, recordAt, nextAt, walkFrom, walk, covered, outcome}
 use Rattle.paper.proofs.Bytes.{in4, rates, singleBody, curveBody}
 use Rattle.paper.proofs.FactorTable.{table, written, afterWritten, factorWritten, valueBy, changeBy, report-written}
@@ -75,5 +75,5 @@ unfolding kept sum totalℤ first greatest roundedUp notAfter upperEnds bucketOf
 tolerance-is = refl
 
 pub report-is : reportOf currencies (totals kept) 1 ≡ stated
-unfolding stated changes sum greatest first tabulateFrom scenarioSum measure worst verdict verdictNumber listed reportFrom
-report-is = report-written currencies (totals kept) 1 ∙ ap₂ (λ (l : List ℤ) (u : ℕ). reportFrom currencies l u 1) changes-are tolerance-is
+unfolding stated changes sum greatest first tabulateFrom scenarioSum measure worst verdict verdictNumber changesOf reportFrom
+report-is = report-written currencies (totals kept) changes changes-are 1 ∙ ap (λ (u : ℕ). reportFrom currencies (λ c i. getD changes (changeAt c i) (pos 0)) u 1) tolerance-is

@@ -1,9 +1,8 @@
--- From changes to the verdict (001, step 5; SRP31.82 for the 15 per cent). The rules are over any changes by currency and scenario, the report over their list.
+-- From changes to the verdict (001, step 5; SRP31.82 for the 15 per cent). The rules are over any changes by currency and scenario.
 use Prim.Native.Nat.{ℕ, suc, _+_, _*_, _-_, _/_, _%_}
 use mathlib.Core.List.{List, [], _∷_, _++_}
 use lib.IntN.{ℤ, pos, _+ℤ_, _-ℤ_, _*ℤ_}
 use lib.Signed.{ltZ, leZ}
-use lib.ListN.{getD}
 use Rattle.laws.specs.Tests.{if_then_else_, _is_, first}
 use Rattle.laws.specs.Integers.{up}
 use Rattle.laws.specs.Sums.{sum, greatest}
@@ -51,24 +50,20 @@ verdictNumber Close = 3
 unfoldable pub changesOf : ℕ → (ℕ → ℕ → ℤ) → List ℤ
 changesOf top changes = tabulate (λ j. changes (suc (j / 6)) (suc (j % 6))) (6 * top)
 
+unfoldable pub reportFrom : ℕ → (ℕ → ℕ → ℤ) → ℕ → ℕ → List ℤ
+reportFrom top changes u T =
+    let m = measure top changes in
+    changesOf top changes
+    ++ tabulateFrom (λ i. pos (scenarioSum top changes i)) 1 6
+    ++ (pos m ∷ pos (worst top changes) ∷ pos u ∷ pos (verdictNumber (verdict m u T)) ∷ [])
+
+unfoldable pub reportOf : ℕ → Totals → ℕ → List ℤ
+reportOf top t T = reportFrom top (change t) (totalTolerance top (tolerance t)) T
+
+-- where each number stands in it
 abbrev pub changeAt : ℕ → ℕ → ℕ
 changeAt c i = 6 * (c - 1) + (i - 1)
 
--- a change as it stands in such a list
-unfoldable pub listed : List ℤ → ℕ → ℕ → ℤ
-listed list c i = getD list (changeAt c i) (pos 0)
-
-unfoldable pub reportFrom : ℕ → List ℤ → ℕ → ℕ → List ℤ
-reportFrom top list u T =
-    let changes = listed list in
-    list
-    ++ tabulateFrom (λ i. pos (scenarioSum top changes i)) 1 6
-    ++ (pos (measure top changes) ∷ pos (worst top changes) ∷ pos u ∷ pos (verdictNumber (verdict (measure top changes) u T)) ∷ [])
-
-unfoldable pub reportOf : ℕ → Totals → ℕ → List ℤ
-reportOf top t T = reportFrom top (changesOf top (change t)) (totalTolerance top (tolerance t)) T
-
--- where each number stands in it
 abbrev pub sumAt : ℕ → ℕ → ℕ
 sumAt top i = 6 * top + (i - 1)
 

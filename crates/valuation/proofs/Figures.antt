@@ -16,7 +16,8 @@ use Rattle.laws.proofs.Tests.{lt-or-ge, first-to}
 use Rattle.laws.proofs.Lists.{tabulate-length, tabulate-at, tabulate-past}
 use Rattle.paper.specs.Records.{currencies}
 use Rattle.paper.specs.Flow.{scenarios, shocked}
-use Rattle.paper.specs.Verdict.{listed, scenarioSum, measure, worst, changesOf}
+use Rattle.paper.specs.Verdict.{scenarioSum, measure, worst, changesOf}
+use Rattle.arrays.specs.Rooms.{listed}
 use Rattle.change.specs.Figures.{mostOfAChange}
 use Rattle.valuation.specs.Figures.{mostOfASum, Figures}
 

@@ -21,7 +21,7 @@ use Rattle.arrays.proofs.More.{cell-is, addOn-is}
 use Rattle.change.specs.Bounds.{Bounded}
 use Rattle.change.proofs.Agreement.{SameCurrency, currency-bounded}
 use Rattle.valuation.specs.Bounds.{Nothing, Bounds}
-use Rattle.valuation.proofs.SameReport.{currency-nothing, report-same}
+use Rattle.valuation.proofs.SameReport.{currency-nothing, totals-report}
 
 module _ (kept : List Record) where
   abbrev pub arrayTotals : Totals
@@ -38,7 +38,7 @@ module _ (kept : List Record) where
   }
 
   pub kept-report : (T : ℕ) → reportOf currencies arrayTotals T ≡ reportOf currencies (totals kept) T
-  kept-report T = sym (report-same (totals kept) arrayTotals T same-kept)
+  kept-report T = sym (totals-report (totals kept) arrayTotals T same-kept)
 
   module _ (good : Good kept) where
     kept-bounded : (c : ℕ) → Bounded (totals kept) c

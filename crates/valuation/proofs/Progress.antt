@@ -10,8 +10,9 @@ use Rattle.paper.specs.Records.{currencies}
 use Rattle.paper.specs.Flow.{shocked}
 use Rattle.paper.specs.Ledger.{Totals}
 use Rattle.paper.specs.Change.{change, tolerance}
-use Rattle.paper.specs.Verdict.{scenarioSum, measure, totalTolerance, changesOf, listed, reportFrom, reportOf}
-use Rattle.paper.proofs.ReportList.{measure-listed}
+use Rattle.paper.specs.Verdict.{scenarioSum, measure, totalTolerance, changesOf, reportFrom, reportOf}
+use Rattle.paper.proofs.ReportList.{change-at, measure-same, report-same}
+use Rattle.arrays.specs.Rooms.{listed}
 use Rattle.paper.proofs.EmptyCurrency.{nothing-change, nothing-tolerance}
 use Rattle.change.specs.Figures.{tolerances, withFigures, mostOfAChange}
 use Rattle.change.proofs.Bounds.{change-most, tolerance-most}
@@ -51,6 +52,10 @@ module _ {t : Totals} {n : ℕ} {first second : List ℤ} (h : n < currencies) (
 
 -- ---- all of them
 
+as-listed : (f : ℕ → ℕ → ℤ) {list : List ℤ} → list ≡ changesOf currencies f → (c i : ℕ) → 1 ≤ c → c ≤ currencies → 1 ≤ i → i ≤ shocked → listed list c i ≡ f c i
+unfolding listed
+as-listed f e c i l h p m = rw e (change-at currencies f c i l h p m)
+
 module _ (t : Totals) (curved : ℕ → Bool) (b : Bounds t curved) where
   changes-small : (c i : ℕ) → 1 ≤ c → c ≤ currencies → 1 ≤ i → i ≤ shocked → natAbs (change t c i) ≤ mostOfAChange
   changes-small c i l h p m = by (curved c) refl
@@ -79,6 +84,10 @@ module _ (t : Totals) (curved : ℕ → Bool) (b : Bounds t curved) where
     pub tolerance-figures : Figures second
     tolerance-figures = rw all-tolerances (figures-of (tolerances t) tolerances-small)
 
-    pub report-done : (T : ℕ) → reportFrom currencies first (measure currencies (listed second)) T ≡ reportOf currencies t T
-    unfolding reportOf measure scenarioSum totalTolerance
-    report-done T = ap₂ (λ (list : List ℤ) (u : ℕ). reportFrom currencies list u T) all-changes (rw all-tolerances (measure-listed currencies (tolerances t)))
+    total-done : measure currencies (listed second) ≡ totalTolerance currencies (tolerance t)
+    unfolding measure scenarioSum totalTolerance
+    total-done = measure-same currencies (listed second) (tolerances t) (as-listed (tolerances t) all-tolerances)
+
+    pub report-done : (T : ℕ) → reportFrom currencies (listed first) (measure currencies (listed second)) T ≡ reportOf currencies t T
+    unfolding reportOf
+    report-done T = rw total-done (report-same currencies (listed first) (change t) (as-listed (change t) all-changes) _ T)

@@ -7,7 +7,8 @@ ghost use Rattle.laws.specs.Lists.{tabulateFrom};
 ghost use Rattle.paper.specs.Records.{currencies};
 ghost use Rattle.paper.specs.Flow.{scenarios, shocked};
 ghost use Rattle.paper.specs.Ledger.{figures};
-ghost use Rattle.paper.specs.Verdict.{listed, scenarioSum, measure, reportFrom};
+ghost use Rattle.paper.specs.Verdict.{scenarioSum, measure, reportFrom};
+ghost use Rattle.arrays.specs.Rooms.{listed};
 ghost use Rattle.valuation.specs.Figures.{Figures, mostOfASum, closing};
 use crate::measure::Greatest;
 use crate::measure::greatest_sum;
@@ -56,7 +57,7 @@ fn write_closing(worst: Greatest, tolerance: u64, tier1: u64, room: &mut [i64])
 pub fn write_report(changes: &[i64], tolerances: &[i64], tier1: u64, report: &mut [i64])
     requires { ⌜ Figures (now changes) × Figures (now tolerances) ⌝ }
     requires { ⌜ (tier1 ≤ 1_000_000_000_000) × (length (now report) ≡ figures currencies) ⌝ }
-    ensures { λ _. ⌜ now (report .exit) ≡ reportFrom currencies (now (changes .entry)) (measure currencies (listed (now (tolerances .entry)))) tier1 ⌝ }
+    ensures { λ _. ⌜ now (report .exit) ≡ reportFrom currencies (listed (now (changes .entry))) (measure currencies (listed (now (tolerances .entry)))) tier1 ⌝ }
 {
     let worst = greatest_sum(changes);
     let tolerance = greatest_sum(tolerances).sum;

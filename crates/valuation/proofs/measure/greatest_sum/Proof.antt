@@ -6,7 +6,8 @@ use native.Mathlib.Omega.{arith}
 use borrow.Author.Needs.{needs}
 use Rattle.paper.specs.Records.{currencies}
 use Rattle.paper.specs.Flow.{shocked}
-use Rattle.paper.specs.Verdict.{listed, scenarioSum, measure, worst}
+use Rattle.paper.specs.Verdict.{scenarioSum, measure, worst}
+use Rattle.arrays.specs.Rooms.{listed}
 use Rattle.laws.proofs.Scan.{reaching, Scanned, scanned-none, scanned-greater, scanned-same}
 use Rattle.valuation.proofs.measure.greatest_sum.Statement.{statement}
 use Rattle.valuation.proofs.measure.greatest_sum.Tie as tie

@@ -14,7 +14,8 @@ use Rattle.laws.proofs.Widths.{sfits-abs, back}
 use Rattle.laws.proofs.Sums.{sum-more}
 use Rattle.paper.specs.Records.{currencies}
 use Rattle.paper.specs.Flow.{shocked}
-use Rattle.paper.specs.Verdict.{listed, scenarioSum}
+use Rattle.paper.specs.Verdict.{scenarioSum}
+use Rattle.arrays.specs.Rooms.{listed}
 use Rattle.valuation.proofs.Figures.{listed-at, losses-most}
 use Rattle.valuation.proofs.measure.scenario_sum.Statement.{statement}
 use Rattle.valuation.proofs.measure.scenario_sum.Tie as tie

@@ -3,7 +3,8 @@ use Prim.Native.Nat.{ℕ}
 use mathlib.Core.Path.{ap, _∙_}
 use native.Mathlib.Omega.{arith}
 use Rattle.paper.specs.Records.{currencies}
-use Rattle.paper.specs.Verdict.{listed, reportFrom}
+use Rattle.paper.specs.Verdict.{reportFrom}
+use Rattle.arrays.specs.Rooms.{listed}
 use Rattle.valuation.proofs.Figures.{measure-most, worst-most}
 use Rattle.valuation.proofs.ReportParts.{report-written}
 use borrow.Author.Needs.{needs}
@@ -71,7 +72,7 @@ returns c =
     (c .before .before .before .before .write-sums .ensures)
     (c .before .write-closing .ensures)
     (worst .ensures .0) (worst .ensures .1)
-    ∙ ap (λ (u : ℕ). reportFrom currencies (s .args .changes .now) u (s .args .tier1)) (b .before .greatest-sum2 .ensures .0)
+    ∙ ap (λ (u : ℕ). reportFrom currencies (listed (s .args .changes .now)) u (s .args .tier1)) (b .before .greatest-sum2 .ensures .0)
 
 pub write-report-spec : {M : Type 1} → statement M
 write-report-spec =

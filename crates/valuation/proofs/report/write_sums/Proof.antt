@@ -10,7 +10,8 @@ use borrow.Author.Needs.{needs}
 use Rattle.laws.proofs.Filling.{Filled, filled-none, filled-next, filled-from}
 use Rattle.paper.specs.Records.{currencies}
 use Rattle.paper.specs.Flow.{shocked}
-use Rattle.paper.specs.Verdict.{listed, scenarioSum}
+use Rattle.paper.specs.Verdict.{scenarioSum}
+use Rattle.arrays.specs.Rooms.{listed}
 use Rattle.valuation.proofs.Figures.{scenario-sum-most}
 use Rattle.valuation.proofs.report.write_sums.Statement.{statement}
 use Rattle.valuation.proofs.report.write_sums.Tie as tie
