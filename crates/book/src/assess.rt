@@ -53,7 +53,7 @@ fn assess_records(book: &[u8], tier1: Thousands, report: &mut [i64], ledger: &mu
         }
         Loaded::Kept(curved) => {
             let factors = table();
-            fill_report(ledger, &rates, &addons, curved, tier1.0, &factors, report);
+            fill_report(ledger, &rates, &addons, curved, tier1, &factors, report);
             Assessed::Reported(curved)
         }
     }
