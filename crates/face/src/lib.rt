@@ -4,6 +4,7 @@ ghost use Rattle.face.specs.Face.{Faces, withPlace};
 use book::assess::Assessed;
 use book::assess::assess;
 use book::refusal::refusal_number;
+use ladder::Thousands;
 
 // A caller that lends no cell for the place is not told it.
 fn put_place(place: &mut [u64], told: u64)
@@ -25,7 +26,7 @@ pub extern "C" fn vorlegan_assess(
 ) -> u32
     ensures { λ r. ⌜ Faces (now (book .entry)) tier1 report ledger place r ⌝ }
 {
-    match assess(book, tier1, report, ledger) {
+    match assess(book, Thousands(tier1), report, ledger) {
         Assessed::Reported(_) => {
             put_place(place, 0);
             0
