@@ -9,6 +9,7 @@ ghost use Rattle.load.specs.Load.{ofRecords};
 ghost use Rattle.book.specs.Assessed.{Answers, Assesses, Truthful, turnedAway};
 use crate::rooms::clear;
 use factor::table;
+use ladder::Thousands;
 use load::Loaded;
 use load::load;
 use paper::CELLS;
@@ -28,10 +29,10 @@ pub enum Assessed {
 }
 
 // The records, then the report: the capital and the rooms are those that 16 and 18 ask for.
-fn assess_records(book: &[u8], tier1: u64, report: &mut [i64], ledger: &mut [i64]) -> Assessed
-    requires { ⌜ tier1 ≤ 1_000_000_000_000 ⌝ }
+fn assess_records(book: &[u8], tier1: Thousands, report: &mut [i64], ledger: &mut [i64]) -> Assessed
+    requires { ⌜ tier1 .0 ≤ 1_000_000_000_000 ⌝ }
     requires { ⌜ (length (now report) ≡ figures currencies) × (length (now ledger) ≡ cells currencies) ⌝ }
-    ensures { λ r. ⌜ Answers (ofRecords (now (book .entry))) tier1 (now (report .entry)) (now (ledger .entry)) r (now (report .exit)) (now (ledger .exit)) ⌝ }
+    ensures { λ r. ⌜ Answers (ofRecords (now (book .entry))) (tier1 .0) (now (report .entry)) (now (ledger .entry)) r (now (report .exit)) (now (ledger .exit)) ⌝ }
 {
     clear(ledger);
     let mut rates = [0i64; CELLS];
@@ -74,18 +75,18 @@ fn room_too_small(report: usize, ledger: usize) -> bool
     ledger < CELLS
 }
 
-fn bad_capital(tier1: u64) -> bool
-    ensures { λ r. ⌜ r ≡ badCapital tier1 ⌝ }
+fn bad_capital(tier1: Thousands) -> bool
+    ensures { λ r. ⌜ r ≡ badCapital (tier1 .0) ⌝ }
 {
-    if tier1 < 1 {
+    if tier1.0 < 1 {
         return true;
     }
-    1_000_000_000_000 < tier1
+    1_000_000_000_000 < tier1.0
 }
 
-pub fn assess(book: &[u8], tier1: u64, report: &mut [i64], ledger: &mut [i64]) -> Assessed
-    ensures { λ r. ⌜ Assesses (now (book .entry)) tier1 (now (report .entry)) (now (ledger .entry)) r (now (report .exit)) (now (ledger .exit)) ⌝ }
-    ensures { λ r. ⌜ Truthful (now (book .entry)) tier1 (now (report .entry)) (now (ledger .entry)) (now (report .exit)) ⌝ }
+pub fn assess(book: &[u8], tier1: Thousands, report: &mut [i64], ledger: &mut [i64]) -> Assessed
+    ensures { λ r. ⌜ Assesses (now (book .entry)) (tier1 .0) (now (report .entry)) (now (ledger .entry)) r (now (report .exit)) (now (ledger .exit)) ⌝ }
+    ensures { λ r. ⌜ Truthful (now (book .entry)) (tier1 .0) (now (report .entry)) (now (ledger .entry)) (now (report .exit)) ⌝ }
 {
     if room_too_small(report.len(), ledger.len()) {
         return refused(Refusal::RoomTooSmall);

@@ -21,6 +21,7 @@ use ladder::Exponent;
 use ladder::Millionths;
 use ladder::SignedThousands;
 use ladder::TenThousandthYears;
+use ladder::Thousands;
 use paper::BUCKETS;
 use paper::SECTION;
 use paper::SHOCKED;
@@ -28,28 +29,28 @@ use signed::magnitude;
 use signed::rounded;
 
 // The sum of magnitudes of a scenario's net flows.
-fn net_size(cells: &[i64], scenario: usize) -> u64
+fn net_size(cells: &[i64], scenario: usize) -> Thousands
     requires { ⌜ (length (now cells) ≡ sectionSize) × (scenario < scenarios) ⌝ }
     requires { ⌜ netSize (totalsBy (now cells) [] []) 1 scenario ≤ billion ⌝ }
-    ensures { λ r. ⌜ r ≡ netSize (totalsBy (now (cells .entry)) [] []) 1 scenario ⌝ }
+    ensures { λ r. ⌜ r .0 ≡ netSize (totalsBy (now (cells .entry)) [] []) 1 scenario ⌝ }
 {
     let start = BUCKETS * scenario;
-    let mut size: u64 = 0;
+    let mut size = Thousands(0);
     for k in 0..BUCKETS {
-        size += magnitude(cells[start + k]);
+        size.0 += magnitude(cells[start + k]);
     }
     size
 }
 
 // 26 A / 1,000,000,000 is rounded up.
-fn tolerance_of(size: u64) -> u64
-    requires { ⌜ size ≤ 2 * billion ⌝ }
-    ensures { λ r. ⌜ r ≡ toleranceOf size ⌝ }
+fn tolerance_of(size: Thousands) -> Thousands
+    requires { ⌜ size .0 ≤ 2 * billion ⌝ }
+    ensures { λ r. ⌜ r .0 ≡ toleranceOf (size .0) ⌝ }
 {
-    if size == 0 {
-        0
+    if size.0 == 0 {
+        Thousands(0)
     } else {
-        1 + (26 * size + 999_999_999) / 1_000_000_000
+        Thousands(1 + (26 * size.0 + 999_999_999) / 1_000_000_000)
     }
 }
 
@@ -112,7 +113,8 @@ fn fill_tolerances(cells: &[i64], tolerances: &mut [i64])
 {
     let base = net_size(cells, 0);
     for i in 0..SHOCKED {
-        tolerances[i] = tolerance_of(base + net_size(cells, i + 1)) as i64;
+        let size = Thousands(base.0 + net_size(cells, i + 1).0);
+        tolerances[i] = tolerance_of(size).0 as i64;
     }
 }
 

@@ -106,9 +106,9 @@ fn shocked(
     requires { ⌜ (now shares ≡ shortShares) × (k < buckets) ⌝ }
     ensures { λ r. ⌜ r .0 ≡ shockedRate (curveOf (now (rates .entry)) shocks) scenario k ⌝ }
 {
-    let base = rates[k];
+    let base = Millionths(rates[k]);
     let moved = change(shocks, shares[k], scenario);
-    Millionths(base + moved.0)
+    Millionths(base.0 + moved.0)
 }
 
 // The nineteen rates of one scenario.

@@ -5,6 +5,7 @@ ghost use Rattle.face.specs.Face.{Faces, withPlace};
 use book::assess::Assessed;
 use book::assess::assess;
 use book::refusal::refusal_number;
+use ladder::Thousands;
 
 // A caller that lends no cell for the place is not told it.
 fn put_place(place: &mut [u64], told: u64)
@@ -27,7 +28,7 @@ pub extern "C" fn vorlegan_assess(
     ensures { λ r. ⌜ Faces (now (book .entry)) tier1 report ledger place r ⌝ }
     ensures { λ r. ⌜ Truthful (now (book .entry)) tier1 (now (report .entry)) (now (ledger .entry)) (now (report .exit)) ⌝ }
 {
-    match assess(book, tier1, report, ledger) {
+    match assess(book, Thousands(tier1), report, ledger) {
         Assessed::Reported(_) => {
             put_place(place, 0);
             0

@@ -10,6 +10,7 @@ use book::assess::Assessed;
 use book::assess::assess;
 use book::refusal::refusal_number;
 use fields::bytes::four_at;
+use ladder::Thousands;
 use paper::CELLS;
 use paper::FIGURES;
 use paper::LONGEST_BOOK;
@@ -22,18 +23,18 @@ const CAPITAL: usize = 8;
 const LONGEST_INPUT: usize = CAPITAL + LONGEST_BOOK;
 
 // T in 8 bytes, unsigned, the highest first.
-fn capital_in(input: &[u8]) -> u64
+fn capital_in(input: &[u8]) -> Thousands
     requires { ⌜ 8 ≤ length (now input) ⌝ }
-    ensures { λ r. ⌜ r ≡ capitalIn (now (input .entry)) ⌝ }
+    ensures { λ r. ⌜ r .0 ≡ capitalIn (now (input .entry)) ⌝ }
 {
-    four_at(input, 0) as u64 * 4294967296 + four_at(input, 4) as u64
+    Thousands(four_at(input, 0) as u64 * 4294967296 + four_at(input, 4) as u64)
 }
 
 // The rooms are just as long as a report and a ledger.
-fn print_book(book: &[u8], tier1: u64, out: &mut [u8]) -> usize
+fn print_book(book: &[u8], tier1: Thousands, out: &mut [u8]) -> usize
     requires { ⌜ 2048 ≤ length (now out) ⌝ }
-    ensures { λ r. ⌜ (r ≡ length (bookText (now (book .entry)) tier1)) × (r ≤ 2048) ⌝ }
-    ensures { λ r. ⌜ now (out .exit) ≡ bookText (now (book .entry)) tier1 ++ drop r (now (out .entry)) ⌝ }
+    ensures { λ r. ⌜ (r ≡ length (bookText (now (book .entry)) (tier1 .0))) × (r ≤ 2048) ⌝ }
+    ensures { λ r. ⌜ now (out .exit) ≡ bookText (now (book .entry)) (tier1 .0) ++ drop r (now (out .entry)) ⌝ }
 {
     let mut report = [0i64; FIGURES];
     let mut ledger = [0i64; CELLS];

@@ -9,6 +9,7 @@ ghost use Rattle.arrays.specs.Rooms.{totalsBy};
 ghost use Rattle.valuation.specs.Lengths.{ReportLengths};
 ghost use Rattle.valuation.specs.Bounds.{Bounds};
 use arrays::masks::has_curve;
+use ladder::Thousands;
 use paper::CHANGES;
 use paper::CURRENCIES;
 
@@ -22,14 +23,14 @@ pub fn fill_report(
     rates: &[i64],
     add_ons: &[i64],
     curved: u32,
-    tier1: u64,
+    tier1: Thousands,
     table: &[[u64; 10]; 11],
     report: &mut [i64],
 )
     requires { ⌜ ReportLengths (now ledger) (now rates) (now «add_ons») (now report) ⌝ }
-    requires { ⌜ (tier1 ≤ 1_000_000_000_000) × (now table ≡ rows) ⌝ }
+    requires { ⌜ (tier1 .0 ≤ 1_000_000_000_000) × (now table ≡ rows) ⌝ }
     requires { ⌜ Bounds (totalsBy (now ledger) (now «add_ons») (now rates)) (curvedBy curved) ⌝ }
-    ensures { λ _. ⌜ now (report .exit) ≡ reportOf currencies (totalsBy (now (ledger .entry)) (now («add_ons» .entry)) (now (rates .entry))) tier1 ⌝ }
+    ensures { λ _. ⌜ now (report .exit) ≡ reportOf currencies (totalsBy (now (ledger .entry)) (now («add_ons» .entry)) (now (rates .entry))) (tier1 .0) ⌝ }
 {
     let midpoints = ladder::midpoints();
     let mut changes = [0i64; CHANGES];

@@ -15,6 +15,7 @@ use crate::measure::greatest_sum;
 use crate::measure::scenario_sum;
 use crate::verdict::number_of;
 use crate::verdict::verdict_of;
+use ladder::Thousands;
 use paper::CHANGES;
 use paper::FIGURES;
 use paper::SHOCKED;
@@ -37,27 +38,28 @@ fn write_sums(changes: &[i64], room: &mut [i64])
     ensures { λ _. ⌜ now (room .exit) ≡ tabulateFrom (λ i. pos (scenarioSum currencies (listed (now (changes .entry))) i)) 1 shocked ⌝ }
 {
     for i in 0..SHOCKED {
-        room[i] = scenario_sum(changes, i + 1) as i64;
+        room[i] = scenario_sum(changes, i + 1).0 as i64;
     }
 }
 
 // Measure, worst, total tolerance, verdict.
-fn write_closing(worst: Greatest, tolerance: u64, tier1: u64, room: &mut [i64])
-    requires { ⌜ (worst .sum ≤ mostOfASum) × (worst .scenario ≤ scenarios) × (tolerance ≤ mostOfASum) ⌝ }
-    requires { ⌜ (tier1 ≤ 1_000_000_000_000) × (length (now room) ≡ 4) ⌝ }
-    ensures { λ _. ⌜ now (room .exit) ≡ closing (worst .sum) (worst .scenario) tolerance tier1 ⌝ }
+fn write_closing(worst: Greatest, tolerance: Thousands, tier1: Thousands, room: &mut [i64])
+    requires { ⌜ (worst .sum .0 ≤ mostOfASum) × (worst .scenario ≤ scenarios) × (tolerance .0 ≤ mostOfASum) ⌝ }
+    requires { ⌜ (tier1 .0 ≤ 1_000_000_000_000) × (length (now room) ≡ 4) ⌝ }
+    ensures { λ _. ⌜ now (room .exit) ≡ closing (worst .sum .0) (worst .scenario) (tolerance .0) (tier1 .0) ⌝ }
 {
-    room[0] = worst.sum as i64;
+    let measure = worst.sum;
+    room[0] = measure.0 as i64;
     room[1] = worst.scenario as i64;
-    room[2] = tolerance as i64;
-    room[3] = number_of(verdict_of(worst.sum, tolerance, tier1));
+    room[2] = tolerance.0 as i64;
+    room[3] = number_of(verdict_of(measure, tolerance, tier1));
 }
 
 // The total tolerance is the measure of the tolerances.
-pub fn write_report(changes: &[i64], tolerances: &[i64], tier1: u64, report: &mut [i64])
+pub fn write_report(changes: &[i64], tolerances: &[i64], tier1: Thousands, report: &mut [i64])
     requires { ⌜ Figures (now changes) × Figures (now tolerances) ⌝ }
-    requires { ⌜ (tier1 ≤ 1_000_000_000_000) × (length (now report) ≡ figures currencies) ⌝ }
-    ensures { λ _. ⌜ now (report .exit) ≡ reportFrom currencies (listed (now (changes .entry))) (measure currencies (listed (now (tolerances .entry)))) tier1 ⌝ }
+    requires { ⌜ (tier1 .0 ≤ 1_000_000_000_000) × (length (now report) ≡ figures currencies) ⌝ }
+    ensures { λ _. ⌜ now (report .exit) ≡ reportFrom currencies (listed (now (changes .entry))) (measure currencies (listed (now (tolerances .entry)))) (tier1 .0) ⌝ }
 {
     let worst = greatest_sum(changes);
     let tolerance = greatest_sum(tolerances).sum;

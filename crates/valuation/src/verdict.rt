@@ -4,16 +4,17 @@ ghost use Prim.Native.Nat.{_≤_};
 ghost use lib.IntN.{pos};
 ghost use Rattle.paper.specs.Verdict.{verdict, verdictNumber};
 ghost use Rattle.valuation.specs.Figures.{mostOfASum};
+use ladder::Thousands;
 use paper::Verdict;
 
 // Over if 100(measure - tolerance) > 15 T, within if 100(measure + tolerance) <= 15 T: the difference may be below zero.
-pub fn verdict_of(measure: u64, tolerance: u64, tier1: u64) -> Verdict
-    requires { ⌜ (measure ≤ mostOfASum) × (tolerance ≤ mostOfASum) × (tier1 ≤ 1_000_000_000_000) ⌝ }
-    ensures { λ r. ⌜ r ≡ verdict measure tolerance tier1 ⌝ }
+pub fn verdict_of(measure: Thousands, tolerance: Thousands, tier1: Thousands) -> Verdict
+    requires { ⌜ (measure .0 ≤ mostOfASum) × (tolerance .0 ≤ mostOfASum) × (tier1 .0 ≤ 1_000_000_000_000) ⌝ }
+    ensures { λ r. ⌜ r ≡ verdict (measure .0) (tolerance .0) (tier1 .0) ⌝ }
 {
-    let limit = 15 * (tier1 as i64);
-    let low = 100 * (measure as i64 - tolerance as i64);
-    let high = 100 * (measure as i64 + tolerance as i64);
+    let limit = 15 * (tier1.0 as i64);
+    let low = 100 * (measure.0 as i64 - tolerance.0 as i64);
+    let high = 100 * (measure.0 as i64 + tolerance.0 as i64);
     if low > limit {
         return Verdict::Over;
     }

@@ -3,6 +3,7 @@ use crate::show::say;
 use book::assess::Assessed;
 use book::assess::assess;
 use book::refusal::refusal_number;
+use ladder::Thousands;
 use paper::CELLS;
 use paper::FIGURES;
 use text::refusal::write_refusal;
@@ -17,7 +18,7 @@ fn show_refusal(label: &[u8], number: u64, place: u64) {
 // `print_answer` lends rooms that suffice, so 18 is asked of `assess` itself; a report is shown as nothing.
 fn room(label: &[u8], report: &mut [i64], ledger: &mut [i64]) {
     let empty = [0u8; 0];
-    let Assessed::Refused(fault) = assess(&empty, 1, report, ledger) else {
+    let Assessed::Refused(fault) = assess(&empty, Thousands(1), report, ledger) else {
         return;
     };
     let cause = fault.cause;

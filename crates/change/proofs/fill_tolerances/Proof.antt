@@ -27,7 +27,7 @@ abbrev μ-loop : tie.MeasureT-loop
 μ-loop cells tolerances₀ base i₀ tolerances i = shocked - i
 
 -- the two sizes of this turn
-sizes : (c : tie.After-net-size2 Inv-loop μ-loop) → c .before .before .before .net-size .result + c .net-size2 .result ≤ 2 * billion
+sizes : (c : tie.After-net-size2 Inv-loop μ-loop) → c .before .before .before .net-size .result .0 + c .net-size2 .result .0 ≤ 2 * billion
 sizes c =
     let n = c .before .before .before in
     omega (arith, n .net-size .ensures, c .net-size2 .ensures, n .before .pre .1 0 (omega arith), n .before .pre .1 (c .before .before .loop .i + 1) (omega arith))
@@ -35,16 +35,16 @@ sizes c =
 -- the tolerance of this turn
 module _ (c : tie.After-tolerance-of Inv-loop μ-loop) where
   abbrev head : tie.At-loop Inv-loop μ-loop
-  head = c .before .before .before
+  head = c .before .before .before .before .before
 
   abbrev t : Totals
   t = totalsBy (head .before .before .args .cells .now) [] []
 
-  tolerance-is : c .tolerance-of .result ≡ tolerance t 1 (head .loop .i + 1)
+  tolerance-is : c .tolerance-of .result .0 ≡ tolerance t 1 (head .loop .i + 1)
   unfolding tolerance
-  tolerance-is = c .tolerance-of .ensures ∙ ap toleranceOf (ap₂ _+_ (head .before .net-size .ensures) (c .before .net-size2 .ensures))
+  tolerance-is = c .tolerance-of .ensures ∙ ap toleranceOf (ap₂ _+_ (head .before .net-size .ensures) (c .before .before .before .net-size2 .ensures))
 
-  fits : SFits w64 (pos (c .tolerance-of .result))
+  fits : SFits w64 (pos (c .tolerance-of .result .0))
   fits =
       let s = head .before .before in
       record { sfits = omega (arith, tolerance-is, tolerance-most t 1 (head .loop .i + 1) (s .pre .1 0 (omega arith)) (s .pre .1 (head .loop .i + 1) (omega arith))) }
@@ -61,17 +61,17 @@ add-net-size c = search needs
 net-size-requires-2 : tie.Need-net-size-requires-2 Inv-loop μ-loop
 net-size-requires-2 c κs = ((search needs, omega arith), c .before .before .before .pre .1 (c .before .loop .i + 1) (omega arith))
 
-add-tolerance-of : tie.Need-add-tolerance-of Inv-loop μ-loop
-add-tolerance-of c = record { fits = omega (arith, sizes c) }
+add-t9 : tie.Need-add-t9 Inv-loop μ-loop
+add-t9 c = record { fits = omega (arith, sizes (c .before .before)) }
 
 tolerance-of-requires : tie.Need-tolerance-of-requires Inv-loop μ-loop
-tolerance-of-requires c κs = sizes c
+tolerance-of-requires c κs = sizes (c .before .before)
 
 cast-tolerances : tie.Need-cast-tolerances Inv-loop μ-loop
-cast-tolerances c = fits c
+cast-tolerances c = fits (c .before)
 
-mul-t11 : tie.Need-mul-t11 Inv-loop μ-loop
-mul-t11 c = search needs
+mul-t8 : tie.Need-mul-t8 Inv-loop μ-loop
+mul-t8 c = search needs
 
 slice-set-from-tolerances : tie.Need-slice-set-from-tolerances Inv-loop μ-loop
 slice-set-from-tolerances c = search needs
@@ -84,8 +84,9 @@ loop-less c = search needs
 
 loop-again : tie.Need-loop-again Inv-loop μ-loop
 loop-again c =
-    let at = head c .loop in
-    let is = toZ-pos w64 {n = c .tolerance-of .result} (fits c .sfits) ∙ ap pos (tolerance-is c) in
+    let t = c .before in
+    let at = head t .loop in
+    let is = toZ-pos w64 {n = t .tolerance-of .result .0} (fits t .sfits) ∙ ap pos (tolerance-is t) in
     (search needs, search needs, filled-next (pos 0) _ (at .tolerances) (at .i) _ (at .inv .2) is (search needs))
 
 same-length : tie.Need-same-length Inv-loop μ-loop
@@ -104,10 +105,10 @@ fill-tolerances-spec =
     loop-holds
     add-net-size
     net-size-requires-2
-    add-tolerance-of
+    add-t9
     tolerance-of-requires
     cast-tolerances
-    mul-t11
+    mul-t8
     slice-set-from-tolerances
     add-i
     loop-less

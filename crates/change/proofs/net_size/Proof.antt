@@ -20,7 +20,7 @@ use Rattle.change.proofs.net_size.Statement.{statement}
 use Rattle.change.proofs.net_size.Tie as tie
 
 abbrev Inv-loop : tie.InvT-loop
-Inv-loop cells scenario start size₀ k₀ size k = (k ≤ buckets) × (size ≡ sum (λ j. natAbs (cellBy cells 1 scenario j)) k)
+Inv-loop cells scenario start size₀ k₀ size k = (k ≤ buckets) × (size .0 ≡ sum (λ j. natAbs (cellBy cells 1 scenario j)) k)
 
 abbrev μ-loop : tie.MeasureT-loop
 μ-loop cells scenario start size₀ k₀ size k = buckets - k
@@ -67,7 +67,7 @@ magnitude-requires : tie.Need-magnitude-requires Inv-loop μ-loop
 magnitude-requires c κs = search needs
 
 add-size : tie.Need-add-size Inv-loop μ-loop
-add-size c = omega (arith, magnitude-is c, room (c .before))
+add-size c = omega (arith, magnitude-is (c .before), room (c .before .before))
 
 add-k : tie.Need-add-k Inv-loop μ-loop
 add-k c = search needs
@@ -76,7 +76,9 @@ loop-less : tie.Need-loop-less Inv-loop μ-loop
 loop-less c = search needs
 
 loop-again : tie.Need-loop-again Inv-loop μ-loop
-loop-again c = (omega arith, omega (arith, magnitude-is c, sum-more (size (c .before)) (head (c .before) .loop .k)))
+loop-again c =
+    let read = c .before .before in
+    (omega arith, omega (arith, magnitude-is (c .before), sum-more (size read) (head read .loop .k)))
 
 returns : tie.Need-returns Inv-loop μ-loop
 unfolding netSize

@@ -6,14 +6,14 @@ use Rattle.paper.specs.Change.{toleranceOf}
 use Rattle.change.proofs.tolerance_of.Statement.{statement}
 use Rattle.change.proofs.tolerance_of.Tie as tie
 
-mul-result : tie.Need-mul-result
-mul-result c = search needs
+mul-t4 : tie.Need-mul-t4
+mul-t4 c = search needs
 
-add-result : tie.Need-add-result
-add-result c = search needs
+add-t5 : tie.Need-add-t5
+add-t5 c = search needs
 
-add-result-2 : tie.Need-add-result-2
-add-result-2 c = search needs
+add-t7 : tie.Need-add-t7
+add-t7 c = search needs
 
 returns : tie.Need-returns
 unfolding toleranceOf
@@ -21,7 +21,7 @@ returns c = rw (eq-eqb _ _ (c .if1 .taken))
 
 returns-2 : tie.Need-returns-2
 unfolding toleranceOf roundedUp
-returns-2 c = rw (ne-eqb _ _ (c .if1 .left))
+returns-2 c = rw (ne-eqb _ _ (c .before .if1 .left))
 
 pub tolerance-of-spec : {M : Type 1} → statement M
-tolerance-of-spec = tie.close (tie.spec mul-result add-result add-result-2 returns returns-2)
+tolerance-of-spec = tie.close (tie.spec mul-t4 add-t5 add-t7 returns returns-2)

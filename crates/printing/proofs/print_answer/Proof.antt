@@ -54,7 +54,7 @@ returns-3 c =
     let input = c .before .before .before .before .before .before .before .before .before .before .args .input .now in
     let T = c .before .before .before .before .before .capital-in .ensures in
     stands-as _
-    (ap (λ (book : List ℕ). bookText book (c .before .before .before .before .before .capital-in .result)) (part-to-end input 8)
+    (ap (λ (book : List ℕ). bookText book (c .before .before .before .before .before .capital-in .result .0)) (part-to-end input 8)
     ∙ ap (λ (t : ℕ). bookText (drop 8 input) t) T
     ∙ whole-input input (omega arith) (omega arith))
     (omega arith) (c .before .before .print-book .ensures)

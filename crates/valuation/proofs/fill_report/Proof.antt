@@ -117,7 +117,7 @@ returns : tie.Need-returns Inv-loop μ-loop
 returns c =
     let l = c .before .before .before .before .before in
     let s = l .before .before .before in
-    c .before .write-report .ensures ∙ report-done (t s) _ (bounds s) (all-done l) (s .args .tier1)
+    c .before .write-report .ensures ∙ report-done (t s) _ (bounds s) (all-done l) (s .args .tier1 .0)
 
 pub fill-report-spec : {M : Type 1} → statement M
 fill-report-spec =

@@ -47,8 +47,8 @@ fill-report-requires : tie.Need-fill-report-requires
 fill-report-requires c κs =
     let start = c .before .before .before .before .before .before .before .before .before .before .before .before .before .before .before .before .before .before .before .before .before .before .before .before in
     let all = c .before .before .before .before .before .before .before .before .before .before .before .before .before .before .load .ensures .all _ (c .before .before .before .before .before .before .before .curved .given .1) in
-    let sized = all-sized _ (start .args .tier1) (start .args .report .now) (start .args .ledger .now) (start .pre .1 .1) _ _ all in
-    let bounds = bounds-hold _ (start .args .tier1) (start .args .report .now) (start .args .ledger .now) (start .pre .1 .1) _ _ all in
+    let sized = all-sized _ (start .args .tier1 .0) (start .args .report .now) (start .args .ledger .now) (start .pre .1 .1) _ _ all in
+    let bounds = bounds-hold _ (start .args .tier1 .0) (start .args .report .now) (start .args .ledger .now) (start .pre .1 .1) _ _ all in
     ((sized .ledger-long, sized .rates-long, sized .addOns-long, start .pre .1 .0), ((start .pre .0, c .before .before .before .before .before .table .ensures), bounds))
 
 same-length : tie.Need-same-length

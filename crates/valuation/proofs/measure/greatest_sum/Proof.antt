@@ -13,7 +13,7 @@ use Rattle.valuation.proofs.measure.greatest_sum.Statement.{statement}
 use Rattle.valuation.proofs.measure.greatest_sum.Tie as tie
 
 abbrev Inv-loop : tie.InvT-loop
-Inv-loop changes greatest₀ reached₀ i₀ greatest reached i = (i ≤ shocked) × Scanned (scenarioSum currencies (listed changes)) i greatest reached
+Inv-loop changes greatest₀ reached₀ i₀ greatest reached i = (i ≤ shocked) × Scanned (scenarioSum currencies (listed changes)) i (greatest .0) reached
 
 abbrev μ-loop : tie.MeasureT-loop
 μ-loop changes greatest₀ reached₀ i₀ greatest reached i = shocked - i
@@ -38,9 +38,10 @@ loop-less c = search needs
 
 loop-again : tie.Need-loop-again Inv-loop μ-loop
 loop-again c =
-    let at = c .before .before .before in
-    let x = c .before .scenario-sum .result in
-    let is-next = c .before .scenario-sum .ensures in (
+    let summed = c .before .before .before in
+    let at = summed .before .before in
+    let x = summed .scenario-sum .result .0 in
+    let is-next = summed .scenario-sum .ensures in (
       omega arith,
       ⊎-elim
           (λ w. rw (w .1, w .2) (scanned-greater (at .loop .inv .1) x is-next (w .0 .taken)))

@@ -45,12 +45,12 @@ same-length c = search needs
 
 returns : tie.Need-returns
 returns c =
-    let s = c .before .before .before .before in
+    let s = c .before .before .before .before .before .before in
     let worst = s .args .worst in
-    let sum-is = toZ-pos w64 {n = worst .sum} (omega arith) in
+    let sum-is = toZ-pos w64 {n = worst .sum .0} (omega arith) in
     let scenario-is = toZ-pos w64 {n = worst .scenario} (omega arith) in
-    let tolerance-is = toZ-pos w64 {n = s .args .tolerance} (omega arith) in
-    let verdict-is : toZ w64 (ofZ w64 (c .number-of .result)) ≡ pos (verdictNumber (verdict (worst .sum) (s .args .tolerance) (s .args .tier1))) =
+    let tolerance-is = toZ-pos w64 {n = s .args .tolerance .0} (omega arith) in
+    let verdict-is : toZ w64 (ofZ w64 (c .number-of .result)) ≡ pos (verdictNumber (verdict (worst .sum .0) (s .args .tolerance .0) (s .args .tier1 .0))) =
     back w64 (c .number-of .result) (c .number-of .ok) ∙ c .number-of .ensures ∙ ap (λ (v : Verdict). pos (verdictNumber v)) (c .before .verdict-of .ensures) in
     rw (sum-is, scenario-is, tolerance-is, verdict-is) (four-stored (s .args .room .now) _ _ _ _ (s .pre .1 .1))
 

@@ -52,10 +52,10 @@ part-write-closing-end c = search needs
 
 write-closing-requires : tie.Need-write-closing-requires
 write-closing-requires c κs =
-    let b = c .before .before .before .before .before .before in
-    let worst = b .before .before .greatest-sum .ensures in
-    let u = b .before .greatest-sum2 .ensures .0 in
-    let s = b .before .before .before in
+    let b = c .before .before .before .before .before .before .before .before in
+    let worst = b .before .greatest-sum .ensures in
+    let u = b .greatest-sum2 .ensures .0 in
+    let s = b .before .before in
     ((omega (arith, worst .0, measure-most (s .pre .0 .0)), omega (arith, worst .1, worst-most (listed (s .args .changes .now))), omega (arith, u, measure-most (s .pre .0 .1))), (search needs, search needs))
 
 same-length : tie.Need-same-length
@@ -63,16 +63,16 @@ same-length c = search needs
 
 returns : tie.Need-returns
 returns c =
-    let b = c .before .before .before .before .before .before .before .before in
-    let worst = b .before .before .greatest-sum in
-    let s = b .before .before .before in
-    report-written (s .args .report .now) (s .args .changes .now) (b .before .greatest-sum2 .result .sum) (s .args .tier1) (worst .result .sum) (worst .result .scenario)
+    let b = c .before .before .before .before .before .before .before .before .before .before in
+    let worst = b .before .greatest-sum in
+    let s = b .before .before in
+    report-written (s .args .report .now) (s .args .changes .now) (b .greatest-sum2 .result .sum .0) (s .args .tier1 .0) (worst .result .sum .0) (worst .result .scenario)
     (s .pre .1 .1) (s .pre .0 .0 .long)
     (c .before .before .before .before .before .before .before .write-changes .ensures)
     (c .before .before .before .before .write-sums .ensures)
     (c .before .write-closing .ensures)
     (worst .ensures .0) (worst .ensures .1)
-    ∙ ap (λ (u : ℕ). reportFrom currencies (listed (s .args .changes .now)) u (s .args .tier1)) (b .before .greatest-sum2 .ensures .0)
+    ∙ ap (λ (u : ℕ). reportFrom currencies (listed (s .args .changes .now)) u (s .args .tier1 .0)) (b .greatest-sum2 .ensures .0)
 
 pub write-report-spec : {M : Type 1} → statement M
 write-report-spec =

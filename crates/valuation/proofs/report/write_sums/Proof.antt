@@ -34,7 +34,8 @@ scenario-sum-requires c κs = search needs
 
 cast-room : tie.Need-cast-room Inv-loop μ-loop
 cast-room c =
-    record { sfits = omega (arith, c .scenario-sum .ensures, scenario-sum-most (c .before .before .before .pre .1) (c .before .before .loop .i + 1)) }
+    let at = c .before .before .before in
+    record { sfits = omega (arith, c .before .scenario-sum .ensures, scenario-sum-most (at .before .pre .1) (at .loop .i + 1)) }
 
 mul-t8 : tie.Need-mul-t8 Inv-loop μ-loop
 mul-t8 c = search needs
@@ -50,8 +51,8 @@ loop-less c = search needs
 
 loop-again : tie.Need-loop-again Inv-loop μ-loop
 loop-again c =
-    let at = c .before .before .loop in
-    let sum-is = toZ-pos w64 {n = c .scenario-sum .result} (cast-room c .sfits) ∙ ap pos (c .scenario-sum .ensures) in
+    let at = c .before .before .before .loop in
+    let sum-is = toZ-pos w64 {n = c .before .scenario-sum .result .0} (cast-room c .sfits) ∙ ap pos (c .before .scenario-sum .ensures) in
     (search needs, search needs, filled-next (pos 0) _ (at .room) (at .i) _ (at .inv .2) sum-is (search needs))
 
 same-length : tie.Need-same-length Inv-loop μ-loop

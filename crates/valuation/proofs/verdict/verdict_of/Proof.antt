@@ -39,19 +39,19 @@ module _ (m u T : ℕ) where
 -- every number on the way fits
 module _ (c : tie.Start) where
   abbrev m : ℤ
-  m = pos (c .args .measure)
+  m = pos (c .args .measure .0)
 
   abbrev u : ℤ
-  u = pos (c .args .tolerance)
+  u = pos (c .args .tolerance .0)
 
   m-small : Small mostOfASum m
-  m-small = small-le (omega arith) (small-pos (c .args .measure))
+  m-small = small-le (omega arith) (small-pos (c .args .measure .0))
 
   u-small : Small mostOfASum u
-  u-small = small-le (omega arith) (small-pos (c .args .tolerance))
+  u-small = small-le (omega arith) (small-pos (c .args .tolerance .0))
 
-  limit-fits : SFits w64 (pos 15 *ℤ pos (c .args .tier1))
-  limit-fits = small-fits tt (small-mul (small-pos 15) (small-le {n = 1000000000000} (omega arith) (small-pos (c .args .tier1))))
+  limit-fits : SFits w64 (pos 15 *ℤ pos (c .args .tier1 .0))
+  limit-fits = small-fits tt (small-mul (small-pos 15) (small-le {n = 1000000000000} (omega arith) (small-pos (c .args .tier1 .0))))
 
   less-fits : SFits w64 (m -ℤ u)
   less-fits = small-fits tt (small-sub m-small u-small)
@@ -65,29 +65,29 @@ module _ (c : tie.Start) where
   high-fits : SFits w64 (pos 100 *ℤ (m +ℤ u))
   high-fits = small-fits tt (small-mul (small-pos 100) (small-add m-small u-small))
 
-  m-is : toZ w64 (c .args .measure) ≡ m
-  m-is = toZ-pos w64 {n = c .args .measure} (omega arith)
+  m-is : toZ w64 (c .args .measure .0) ≡ m
+  m-is = toZ-pos w64 {n = c .args .measure .0} (omega arith)
 
-  u-is : toZ w64 (c .args .tolerance) ≡ u
-  u-is = toZ-pos w64 {n = c .args .tolerance} (omega arith)
+  u-is : toZ w64 (c .args .tolerance .0) ≡ u
+  u-is = toZ-pos w64 {n = c .args .tolerance .0} (omega arith)
 
-  tier1-is : toZ w64 (c .args .tier1) ≡ pos (c .args .tier1)
-  tier1-is = toZ-pos w64 {n = c .args .tier1} (omega arith)
+  tier1-is : toZ w64 (c .args .tier1 .0) ≡ pos (c .args .tier1 .0)
+  tier1-is = toZ-pos w64 {n = c .args .tier1 .0} (omega arith)
 
-  limit-is : toZ w64 (ofZ w64 (pos 15 *ℤ toZ w64 (c .args .tier1))) ≡ pos 15 *ℤ pos (c .args .tier1)
+  limit-is : toZ w64 (ofZ w64 (pos 15 *ℤ toZ w64 (c .args .tier1 .0))) ≡ pos 15 *ℤ pos (c .args .tier1 .0)
   limit-is = rw tier1-is (toZ-ofZ limit-fits)
 
-  low-is : toZ w64 (ofZ w64 (pos 100 *ℤ toZ w64 (ofZ w64 (toZ w64 (c .args .measure) -ℤ toZ w64 (c .args .tolerance))))) ≡ pos 100 *ℤ (m -ℤ u)
+  low-is : toZ w64 (ofZ w64 (pos 100 *ℤ toZ w64 (ofZ w64 (toZ w64 (c .args .measure .0) -ℤ toZ w64 (c .args .tolerance .0))))) ≡ pos 100 *ℤ (m -ℤ u)
   low-is = rw (m-is, u-is, toZ-ofZ less-fits) (toZ-ofZ low-fits)
 
-  high-is : toZ w64 (ofZ w64 (pos 100 *ℤ toZ w64 (ofZ w64 (toZ w64 (c .args .measure) +ℤ toZ w64 (c .args .tolerance))))) ≡ pos 100 *ℤ (m +ℤ u)
+  high-is : toZ w64 (ofZ w64 (pos 100 *ℤ toZ w64 (ofZ w64 (toZ w64 (c .args .measure .0) +ℤ toZ w64 (c .args .tolerance .0))))) ≡ pos 100 *ℤ (m +ℤ u)
   high-is = rw (m-is, u-is, toZ-ofZ more-fits) (toZ-ofZ high-fits)
 
 cast-limit : tie.Need-cast-limit
 cast-limit c = search needs
 
 mul-limit : tie.Need-mul-limit
-mul-limit c = rw (tier1-is c) (limit-fits c)
+mul-limit c = let s = c .before in rw (tier1-is s) (limit-fits s)
 
 cast-low : tie.Need-cast-low
 cast-low c = search needs
@@ -96,10 +96,10 @@ cast-low-2 : tie.Need-cast-low-2
 cast-low-2 c = search needs
 
 sub-low : tie.Need-sub-low
-sub-low c = rw (m-is c, u-is c) (less-fits c)
+sub-low c = let s = c .before .before .before in rw (m-is s, u-is s) (less-fits s)
 
 mul-low : tie.Need-mul-low
-mul-low c = rw (m-is c, u-is c, toZ-ofZ (less-fits c)) (low-fits c)
+mul-low c = let s = c .before .before .before in rw (m-is s, u-is s, toZ-ofZ (less-fits s)) (low-fits s)
 
 cast-high : tie.Need-cast-high
 cast-high c = search needs
@@ -108,22 +108,24 @@ cast-high-2 : tie.Need-cast-high-2
 cast-high-2 c = search needs
 
 add-high : tie.Need-add-high
-add-high c = rw (m-is c, u-is c) (more-fits c)
+add-high c = let s = c .before .before .before .before .before in rw (m-is s, u-is s) (more-fits s)
 
 mul-high : tie.Need-mul-high
-mul-high c = rw (m-is c, u-is c, toZ-ofZ (more-fits c)) (high-fits c)
+mul-high c = let s = c .before .before .before .before .before in rw (m-is s, u-is s, toZ-ofZ (more-fits s)) (high-fits s)
 
 returns : tie.Need-returns
-returns c = over-is _ _ _ (rw (limit-is (c .before), low-is (c .before)) at (c .if1 .taken))
+returns c =
+    let s = c .before .before .before .before .before .before in
+    over-is _ _ _ (rw (limit-is s, low-is s) at (c .if1 .taken))
 
 returns-2 : tie.Need-returns-2
 returns-2 c =
-    let s = c .before .before in
+    let s = c .before .before .before .before .before .before .before in
     within-is _ _ _ (rw (limit-is s, low-is s) at (c .before .if1 .left)) (rw (limit-is s, high-is s) at (c .if2 .taken))
 
 returns-3 : tie.Need-returns-3
 returns-3 c =
-    let s = c .before .before in
+    let s = c .before .before .before .before .before .before .before in
     close-is _ _ _ (rw (limit-is s, low-is s) at (c .before .if1 .left)) (rw (limit-is s, high-is s) at (c .if2 .left))
 
 pub verdict-of-spec : {M : Type 1} → statement M
