@@ -14,13 +14,15 @@ returns : tie.Need-returns
 returns c =
     let told = c .before .before in
     let read = told .before .signed-at in
-    field-refused badOption TooLarge _ optionFieldOf (rw (option-outside _) (sym (c .before .outside .ensures) ∙ c .if1 .taken)) (back w64 _ (told .struct-told .given .0 .1)) (back w64 _ (read .ok) ∙ read .ensures)
+    field-refused badOption TooLarge _ optionFieldOf (rw (option-outside _) (sym (c .before .outside .ensures) ∙ c .if1 .taken)) (back w64 _ (told .struct-told .given .0 .1))
+    (back w64 _ (read .ok) ∙ read .ensures)
 
 returns-2 : tie.Need-returns-2
 returns-2 c =
     let told = c .before .before in
     let read = told .before .signed-at in
-    field-taken badOption TooLarge _ optionFieldOf (rw (option-outside _) (sym (c .before .outside .ensures) ∙ c .if1 .left)) (back w64 _ (told .struct-told .given .0 .1)) (back w64 _ (read .ok) ∙ read .ensures)
+    field-taken badOption TooLarge _ optionFieldOf (rw (option-outside _) (sym (c .before .outside .ensures) ∙ c .if1 .left)) (back w64 _ (told .struct-told .given .0 .1))
+    (back w64 _ (read .ok) ∙ read .ensures)
 
 pub option-at-spec : {M : Type 1} → statement M
 option-at-spec = tie.close (tie.spec (λ c κs. search needs) (λ c κs. search needs) (λ c. search needs) returns returns-2)
