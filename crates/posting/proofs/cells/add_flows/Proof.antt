@@ -32,7 +32,8 @@ add-into-requires c κs =
     let same = joining-rest +ℤ-idr (at .inv .2) (at .j) (search needs) (search needs) in (
       search needs,
       rw (c .before .sided-amount .ensures)
-          (sum-fits (getD (at .cells) (at .j) (pos 0)) (sided (s .args .side) (pos n)) (rw same (s .pre .1 .0 (at .j))) (rw (abs-sided (s .args .side) (pos n)) (s .pre .1 .1 (at .j)))),
+          (sum-fits (getD (at .cells) (at .j) (pos 0)) (sided (s .args .side) (pos n)) (rw same (s .pre .1 .0 (at .j)))
+          (rw (abs-sided (s .args .side) (pos n)) (s .pre .1 .1 (at .j)))),
     )
 
 add-j : tie.Need-add-j Inv-loop μ-loop
