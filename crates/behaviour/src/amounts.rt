@@ -8,26 +8,27 @@ ghost use Rattle.paper.specs.Ladder.{buckets};
 ghost use Rattle.fields.specs.Answers.{amountsFrom};
 ghost use Rattle.posting.specs.Parts.{AtMost};
 use fields::bytes::four_at;
+use ladder::Thousands;
 use paper::BUCKETS;
 
 // The amount of bucket k + 1.
-pub fn amount_of(body: &[u8], from: usize, k: usize) -> u64
+pub fn amount_of(body: &[u8], from: usize, k: usize) -> Thousands
     requires { ⌜ (from + 76 ≤ length (now body)) × (k < buckets) ⌝ }
     requires { ⌜ AtMost billion (amountsFrom (now body) from) ⌝ }
-    ensures { λ r. ⌜ (r ≡ getD (amountsFrom (now (body .entry)) from) k 0) × (r ≤ billion) ⌝ }
+    ensures { λ r. ⌜ (r .0 ≡ getD (amountsFrom (now (body .entry)) from) k 0) × (r .0 ≤ billion) ⌝ }
 {
-    four_at(body, from + 4 * k) as u64
+    Thousands(four_at(body, from + 4 * k) as u64)
 }
 
-pub fn sum_from(body: &[u8], from: usize) -> u64
+pub fn sum_from(body: &[u8], from: usize) -> Thousands
     requires { ⌜ from + 76 ≤ length (now body) ⌝ }
     requires { ⌜ AtMost billion (amountsFrom (now body) from) ⌝ }
-    ensures { λ r. ⌜ (r ≡ sumOf (amountsFrom (now (body .entry)) from)) × (r ≤ 19_000_000_000) ⌝ }
+    ensures { λ r. ⌜ (r .0 ≡ sumOf (amountsFrom (now (body .entry)) from)) × (r .0 ≤ 19_000_000_000) ⌝ }
 {
-    let mut total: u64 = 0;
+    let mut total = Thousands(0);
     let mut k: usize = 0;
     while k < BUCKETS {
-        total += amount_of(body, from, k);
+        total.0 += amount_of(body, from, k).0;
         k += 1;
     }
     total

@@ -15,24 +15,25 @@ ghost use Rattle.posting.specs.Parts.{AtMost, FlowParts};
 ghost use Rattle.posting.specs.Answers.{TakesFlows};
 use crate::amounts::amount_of;
 use crate::amounts::sum_from;
+use ladder::Thousands;
 use paper::BUCKETS;
 use posting::Taken;
 use posting::flows::enter_row;
 use record::deposit::DecodedDeposit;
 use record::deposit::decode_deposit;
 
-fn core_row(body: &[u8], total: u64, row: &mut [u64])
-    requires { ⌜ (length (now body) ≡ 82) × (total ≤ billion) × (length (now row) ≡ buckets) ⌝ }
-    requires { ⌜ AtMost billion (amountsFrom (now body) 6) × (sumOf (amountsFrom (now body) 6) ≤ total) ⌝ }
-    ensures { λ _. ⌜ now (row .exit) ≡ tabulate (depositFlow total (amountsFrom (now (body .entry)) 6)) buckets ⌝ }
+fn core_row(body: &[u8], total: Thousands, row: &mut [u64])
+    requires { ⌜ (length (now body) ≡ 82) × (total .0 ≤ billion) × (length (now row) ≡ buckets) ⌝ }
+    requires { ⌜ AtMost billion (amountsFrom (now body) 6) × (sumOf (amountsFrom (now body) 6) ≤ total .0) ⌝ }
+    ensures { λ _. ⌜ now (row .exit) ≡ tabulate (depositFlow (total .0) (amountsFrom (now (body .entry)) 6)) buckets ⌝ }
 {
-    let rest = total - sum_from(body, 6);
+    let rest = Thousands(total.0 - sum_from(body, 6).0);
     let mut k: usize = 0;
     while k < BUCKETS {
-        row[k] = amount_of(body, 6, k);
+        row[k] = amount_of(body, 6, k).0;
         k += 1;
     }
-    row[0] += rest;
+    row[0] += rest.0;
 }
 
 pub fn take_deposit(currency: u32, body: &[u8], section: &mut [i64], sizes: &mut [u64]) -> Taken
@@ -43,10 +44,9 @@ pub fn take_deposit(currency: u32, body: &[u8], section: &mut [i64], sizes: &mut
     match decode_deposit(currency, body) {
         DecodedDeposit::Refused(fault) => Taken::Refused(fault),
         DecodedDeposit::Is(deposit) => {
-            let total = deposit.total as u64;
             let mut row = [0u64; BUCKETS];
-            core_row(body, total, &mut row);
-            enter_row(&row, 2, total, section, sizes)
+            core_row(body, deposit.total, &mut row);
+            enter_row(&row, 2, deposit.total, section, sizes)
         }
     }
 }

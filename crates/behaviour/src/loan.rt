@@ -21,6 +21,7 @@ use crate::amounts::sum_from;
 use crate::rates::RATES;
 use crate::rates::ROWS;
 use crate::rates::rates_of;
+use ladder::Thousands;
 use paper::BUCKETS;
 use posting::Taken;
 use posting::flows::enter_rows;
@@ -29,78 +30,85 @@ use record::loan::decode_loan;
 
 // A bucket's flow, and what is outstanding after it.
 struct Step {
-    flow: u64,
-    left: u64,
+    flow: Thousands,
+    left: Thousands,
 }
 
-fn paid(scheduled: u64, outstanding: u64) -> u64
-    ensures { λ r. ⌜ (r ≡ paid scheduled outstanding) × (r ≤ outstanding) ⌝ }
+fn paid(scheduled: Thousands, outstanding: Thousands) -> Thousands
+    ensures { λ r. ⌜ (r .0 ≡ paid (scheduled .0) (outstanding .0)) × (r .0 ≤ outstanding .0) ⌝ }
 {
-    if scheduled < outstanding {
+    if scheduled.0 < outstanding.0 {
         return scheduled;
     }
     outstanding
 }
 
 // The rate's part of the balance before payment, at most what payment leaves.
-fn prepaid(rate: u64, scheduled: u64, outstanding: u64) -> u64
-    requires { ⌜ (rate ≤ wholeRate) × (outstanding ≤ billion) ⌝ }
-    ensures { λ r. ⌜ (r ≡ prepaid rate scheduled outstanding) × (paid scheduled outstanding + r ≤ outstanding) ⌝ }
+fn prepaid(rate: u64, scheduled: Thousands, outstanding: Thousands) -> Thousands
+    requires { ⌜ (rate ≤ wholeRate) × (outstanding .0 ≤ billion) ⌝ }
+    ensures { λ r. ⌜ (r .0 ≡ prepaid rate (scheduled .0) (outstanding .0)) × (paid (scheduled .0) (outstanding .0) + r .0 ≤ outstanding .0) ⌝ }
 {
-    let part = outstanding * rate / 100000;
-    let left = outstanding - paid(scheduled, outstanding);
-    if part < left {
+    let part = Thousands(outstanding.0 * rate / 100000);
+    let left = Thousands(outstanding.0 - paid(scheduled, outstanding).0);
+    if part.0 < left.0 {
         return part;
     }
     left
 }
 
 // Scheduled interest in the proportion of the balance to the scheduled one.
-fn interest(scheduled: u64, outstanding: u64, remaining: u64) -> u64
-    requires { ⌜ (scheduled ≤ billion) × (outstanding ≤ remaining) × (remaining ≤ billion) ⌝ }
-    requires { ⌜ (0 below scheduled && remaining is 0) ≡ false ⌝ }
-    ensures { λ r. ⌜ (r ≡ interest scheduled outstanding remaining) × (r ≤ scheduled) ⌝ }
+fn interest(scheduled: Thousands, outstanding: Thousands, remaining: Thousands) -> Thousands
+    requires { ⌜ (scheduled .0 ≤ billion) × (outstanding .0 ≤ remaining .0) × (remaining .0 ≤ billion) ⌝ }
+    requires { ⌜ (0 below scheduled .0 && remaining .0 is 0) ≡ false ⌝ }
+    ensures { λ r. ⌜ (r .0 ≡ interest (scheduled .0) (outstanding .0) (remaining .0)) × (r .0 ≤ scheduled .0) ⌝ }
 {
-    if scheduled == 0 {
-        return 0;
+    if scheduled.0 == 0 {
+        return Thousands(0);
     }
-    scheduled * outstanding / remaining
+    Thousands(scheduled.0 * outstanding.0 / remaining.0)
 }
 
 // One bucket: its scheduled principal and interest, and the balance and the scheduled one before payment.
-fn bucket_step(rate: u64, principal: u64, charge: u64, outstanding: u64, remaining: u64) -> Step
-    requires { ⌜ (rate ≤ wholeRate) × (charge ≤ billion) × (outstanding ≤ remaining) × (remaining ≤ billion) ⌝ }
-    requires { ⌜ (0 below charge && remaining is 0) ≡ false ⌝ }
-    ensures { λ r. ⌜ r .flow ≡ paid principal outstanding + prepaid rate principal outstanding + interest charge outstanding remaining ⌝ }
-    ensures { λ r. ⌜ r .left ≡ outstanding - paid principal outstanding - prepaid rate principal outstanding ⌝ }
+fn bucket_step(
+    rate: u64,
+    principal: Thousands,
+    charge: Thousands,
+    outstanding: Thousands,
+    remaining: Thousands,
+) -> Step
+    requires { ⌜ (rate ≤ wholeRate) × (charge .0 ≤ billion) × (outstanding .0 ≤ remaining .0) × (remaining .0 ≤ billion) ⌝ }
+    requires { ⌜ (0 below charge .0 && remaining .0 is 0) ≡ false ⌝ }
+    ensures { λ r. ⌜ r .flow .0 ≡ paid (principal .0) (outstanding .0) + prepaid rate (principal .0) (outstanding .0) + interest (charge .0) (outstanding .0) (remaining .0) ⌝ }
+    ensures { λ r. ⌜ r .left .0 ≡ outstanding .0 - paid (principal .0) (outstanding .0) - prepaid rate (principal .0) (outstanding .0) ⌝ }
 {
     let scheduled = paid(principal, outstanding);
     let early = prepaid(rate, principal, outstanding);
+    let charged = interest(charge, outstanding, remaining);
     Step {
-        flow: scheduled + early + interest(charge, outstanding, remaining),
-        left: outstanding - scheduled - early,
+        flow: Thousands(scheduled.0 + early.0 + charged.0),
+        left: Thousands(outstanding.0 - scheduled.0 - early.0),
     }
 }
 
 // One rate's nineteen flows, and their sum.
-fn loan_row(body: &[u8], rate: u64, principal: u64, row: &mut [u64]) -> u64
+fn loan_row(body: &[u8], rate: u64, principal: Thousands, row: &mut [u64]) -> Thousands
     requires { ⌜ (length (now body) ≡ 155) × (rate ≤ wholeRate) × (length (now row) ≡ buckets) ⌝ }
-    requires { ⌜ (principal ≡ sumOf (amountsFrom (now body) 3)) × SoundSchedule (amountsFrom (now body) 3) (amountsFrom (now body) 79) ⌝ }
+    requires { ⌜ (principal .0 ≡ sumOf (amountsFrom (now body) 3)) × SoundSchedule (amountsFrom (now body) 3) (amountsFrom (now body) 79) ⌝ }
     ensures { λ r. ⌜ now (row .exit) ≡ tabulate (loanFlow rate (amountsFrom (now (body .entry)) 3) (amountsFrom (now (body .entry)) 79)) buckets ⌝ }
-    ensures { λ r. ⌜ r ≡ sum (loanFlow rate (amountsFrom (now (body .entry)) 3) (amountsFrom (now (body .entry)) 79)) buckets ⌝ }
+    ensures { λ r. ⌜ r .0 ≡ sum (loanFlow rate (amountsFrom (now (body .entry)) 3) (amountsFrom (now (body .entry)) 79)) buckets ⌝ }
 {
     let mut outstanding = principal;
     let mut remaining = principal;
-    let mut total: u64 = 0;
+    let mut total = Thousands(0);
     let mut k: usize = 0;
     while k < BUCKETS {
         let scheduled = amount_of(body, 3, k);
         let charge = amount_of(body, 79, k);
         let step = bucket_step(rate, scheduled, charge, outstanding, remaining);
-        row[k] = step.flow;
-        total += step.flow;
+        row[k] = step.flow.0;
+        total.0 += step.flow.0;
         outstanding = step.left;
-        remaining -= scheduled;
+        remaining.0 -= scheduled.0;
         k += 1;
     }
     total
@@ -120,7 +128,7 @@ fn loan_rows(body: &[u8], share: u32, rows: &mut [u64], sums: &mut [u64])
         let rate = rates[i];
         let from = BUCKETS * i;
         let to = from + BUCKETS;
-        sums[i] = loan_row(body, rate, principal, &mut rows[from..to]);
+        sums[i] = loan_row(body, rate, principal, &mut rows[from..to]).0;
         i += 1;
     }
 }

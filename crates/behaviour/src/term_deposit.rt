@@ -18,17 +18,18 @@ use crate::amounts::sum_from;
 use crate::rates::RATES;
 use crate::rates::ROWS;
 use crate::rates::rates_of;
+use ladder::Thousands;
 use paper::BUCKETS;
 use posting::Taken;
 use posting::flows::enter_rows;
 use record::term_deposit::DecodedTermDeposit;
 use record::term_deposit::decode_term_deposit;
 
-fn moved(rate: u64, amount: u64) -> u64
-    requires { ⌜ (rate ≤ wholeRate) × (amount ≤ billion) ⌝ }
-    ensures { λ r. ⌜ (r ≡ moved rate amount) × (r ≤ amount) ⌝ }
+fn moved(rate: u64, amount: Thousands) -> Thousands
+    requires { ⌜ (rate ≤ wholeRate) × (amount .0 ≤ billion) ⌝ }
+    ensures { λ r. ⌜ (r .0 ≡ moved rate (amount .0)) × (r .0 ≤ amount .0) ⌝ }
 {
-    amount * rate / 100000
+    Thousands(amount.0 * rate / 100000)
 }
 
 // One rate's nineteen flows.
@@ -37,16 +38,16 @@ fn withdrawn(body: &[u8], rate: u64, row: &mut [u64])
     requires { ⌜ AtMost billion (amountsFrom (now body) 3) ⌝ }
     ensures { λ _. ⌜ now (row .exit) ≡ tabulate (termDepositFlow rate (amountsFrom (now (body .entry)) 3)) buckets ⌝ }
 {
-    let mut early: u64 = 0;
+    let mut early = Thousands(0);
     let mut k: usize = 0;
     while k < BUCKETS {
         let amount = amount_of(body, 3, k);
         let part = moved(rate, amount);
-        row[k] = amount - part;
-        early += part;
+        row[k] = amount.0 - part.0;
+        early.0 += part.0;
         k += 1;
     }
-    row[0] += early;
+    row[0] += early.0;
 }
 
 // The rows of the three rates.
@@ -83,7 +84,7 @@ pub fn take_term_deposit(
             let which = [0usize, 2, 1, 1, 2, 2, 1];
             let mut rows = [0u64; ROWS];
             withdrawn_rows(body, deposit.share, &mut rows);
-            let sums = [sum_from(body, 3); RATES];
+            let sums = [sum_from(body, 3).0; RATES];
             enter_rows(&rows, &which, 2, &sums, section, sizes)
         }
     }

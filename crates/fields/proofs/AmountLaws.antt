@@ -16,13 +16,14 @@ use Rattle.paper.specs.Ladder.{buckets}
 use Rattle.paper.specs.Refusals.{Checked, accepted, refused}
 use Rattle.paper.specs.TurnedDown.{badAmount}
 use Rattle.paper.specs.Fields.{four, amountAt, each}
+use Rattle.ladder.specs.declared.Thousands.{Thousands}
 use Rattle.fields.specs.declared.amounts.Amounts.{Amounts}
 use Rattle.fields.specs.declared.amounts.Amounts.the-variants.{Sum, Bad}
-use Rattle.fields.specs.Answers.{amountsFrom, amountsOf}
+use Rattle.fields.specs.Answers.{thousands, amountsFrom, amountsOf}
 use Rattle.fields.proofs.FieldLaws.{field-accepts, each-good, each-bad, each-accepts}
 
 -- an answer's own cases
-was-accepted : (m : Checked (List ℕ)) (s : ℕ) → amountsOf m ≡ Sum s → (xs : List ℕ) × (m ≡ accepted xs) × (s ≡ sumOf xs)
+was-accepted : (m : Checked (List ℕ)) (s : Thousands) → amountsOf m ≡ Sum s → (xs : List ℕ) × (m ≡ accepted xs) × (s .0 ≡ sumOf xs)
 was-accepted (accepted xs) s e = (xs, refl, cc)
 was-accepted (refused q place) s e = ([], cc, cc)
 
@@ -61,9 +62,9 @@ module _ (body : List ℕ) (o : ℕ) where
       → amountsOf (each (amountAt body) buckets o) ≡ Bad f
   summed-stops k s h l e = ap amountsOf (each-bad badAmount TooLarge (four body) o buckets k l e (h .good))
 
-  pub summed-ends : (s : ℕ) → Summed buckets s → amountsOf (each (amountAt body) buckets o) ≡ Sum s
+  pub summed-ends : (s : ℕ) → Summed buckets s → amountsOf (each (amountAt body) buckets o) ≡ Sum (thousands s)
   summed-ends s h =
-      ap amountsOf (each-good badAmount TooLarge (four body) o buckets (h .good)) ∙ ap Sum (sum-tabulate amount buckets ∙ sym (h .total))
+      ap amountsOf (each-good badAmount TooLarge (four body) o buckets (h .good)) ∙ ap (λ (n : ℕ). Sum (thousands n)) (sum-tabulate amount buckets ∙ sym (h .total))
 
   -- what an answer tells of the amounts
   pub record Amounting (s : ℕ) : Type 0 where
@@ -75,9 +76,9 @@ module _ (body : List ℕ) (o : ℕ) where
   unfolding badAmount
   limited h = omega (arith, sum-tabulate amount buckets, sum-le amount (λ k. billion) buckets (λ k l. ltb-false _ _ (h k l)), all-limits)
 
-  pub amounts-summed : {r : Amounts} {s : ℕ} → r ≡ amountsOf (each (amountAt body) buckets o) → r ≡ Sum s → Amounting s
+  pub amounts-summed : {r : Amounts} {s : Thousands} → r ≡ amountsOf (each (amountAt body) buckets o) → r ≡ Sum s → Amounting (s .0)
   amounts-summed {r} {s} p e =
       let t = was-accepted (each (amountAt body) buckets o) s (sym p ∙ e) in
       let u = each-accepts badAmount TooLarge (four body) o buckets (t .0) (t .1) in
-      let same : s ≡ sumOf (amountsFrom body o) = t .2 ∙ ap sumOf (u .0) in
+      let same : s .0 ≡ sumOf (amountsFrom body o) = t .2 ∙ ap sumOf (u .0) in
       record { list = t .1 ∙ ap accepted (u .0); total = same; small = omega (arith, limited (u .1)) }

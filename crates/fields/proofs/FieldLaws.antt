@@ -3,7 +3,7 @@ use Prim.Native.Nat.{ℕ, zero, suc, _+_, _*_, _≤_, _<_}
 use mathlib.Core.Bool.{Bool, true, false, _||_}
 use mathlib.Core.List.{List, _∷_}
 use mathlib.Core.Logic.{_⊎_, inl, inr, ⊎-elim}
-use mathlib.Core.Path.{_≡_, refl, sym, _∙_}
+use mathlib.Core.Path.{_≡_, refl, sym, ap, _∙_}
 use native.Mathlib.Numerals.{add-one}
 use native.Mathlib.Nat.{add-zero, eq-or-lt-of-le}
 use native.Mathlib.Omega.{arith}
@@ -35,6 +35,13 @@ module _ {A : Type 0} (bad : A → Bool) (q : Refusal) where
   pub field-read : (o : ℕ) {F : Type 0} (of : Checked A → F) {r : F} {x y : A} → r ≡ of (unless (bad x) q (o + 1) x) → x ≡ y → r ≡ of (field bad q o y)
   unfolding field
   field-read o of p e = p ∙ rw (add-one o, e)
+
+  -- in an answer to a test of w, which is what was tested
+  pub field-taken : (o : ℕ) {F : Type 0} (of : Checked A → F) {w x y : A} → bad w ≡ false → w ≡ x → x ≡ y → of (accepted x) ≡ of (field bad q o y)
+  field-taken o of {x = x} t d e = ap of (sym (field-good o x (rw d at t))) ∙ rw e
+
+  pub field-refused : (o : ℕ) {F : Type 0} (of : Checked A → F) {w x y : A} → bad w ≡ true → w ≡ x → x ≡ y → of (refused q (o + 1)) ≡ of (field bad q o y)
+  field-refused o of {x = x} t d e = rw (add-one o) (ap of (sym (field-bad o x (rw d at t))) ∙ rw e)
 
 -- and back
 module _ {A : Type 0} (bad : A → Bool) (q : Refusal) (o : ℕ) (x : A) where

@@ -1,20 +1,39 @@
-// Nineteen amounts in a row, by bucket, checked where they stand in the body.
+// An amount; and nineteen of them in a row, by bucket, checked where they stand in the body.
 ghost use mathlib.Core.Path.{_≡_};
 ghost use Prim.Native.Nat.{_+_, _≤_};
 ghost use lib.ListN.{length};
 ghost use Rattle.paper.specs.Ladder.{buckets};
 ghost use Rattle.paper.specs.Fields.{amountAt, each};
-ghost use Rattle.fields.specs.Answers.{amountsOf, amountsFaultIn};
-use crate::Field;
-use crate::amount_at;
+ghost use Rattle.fields.specs.Answers.{amountFieldOf, amountFaultIn, amountsOf, amountsFaultIn};
+use crate::bytes::four_at;
+use ladder::Thousands;
 use paper::BUCKETS;
 use paper::Fault;
 use paper::Refusal;
 
+pub enum Amount {
+    Value(Thousands),
+    Bad(Fault),
+}
+
 // Their sum, or the first that is above its limit.
 pub enum Amounts {
-    Sum(u64),
+    Sum(Thousands),
     Bad(Fault),
+}
+
+impl Amount {
+    pub fn fault(self) -> Fault
+        ensures { λ r. ⌜ r ≡ amountFaultIn self ⌝ }
+    {
+        match self {
+            Amount::Bad(fault) => fault,
+            Amount::Value(_) => Fault {
+                cause: Refusal::UnknownKind,
+                place: 0,
+            },
+        }
+    }
 }
 
 impl Amounts {
@@ -31,18 +50,32 @@ impl Amounts {
     }
 }
 
+pub fn amount_at(body: &[u8], at: usize) -> Amount
+    requires { ⌜ at + 4 ≤ length (now body) ⌝ }
+    ensures { λ r. ⌜ r ≡ amountFieldOf (amountAt (now (body .entry)) at) ⌝ }
+{
+    let word = four_at(body, at);
+    if 1000000000 < word {
+        return Amount::Bad(Fault {
+            cause: Refusal::TooLarge,
+            place: at + 1,
+        });
+    }
+    Amount::Value(Thousands(word as u64))
+}
+
 pub fn amounts_at(body: &[u8], from: usize) -> Amounts
     requires { ⌜ from + 76 ≤ length (now body) ⌝ }
     ensures { λ r. ⌜ r ≡ amountsOf (each (amountAt (now (body .entry))) buckets from) ⌝ }
 {
-    let mut sum: u64 = 0;
+    let mut sum = Thousands(0);
     let mut k: usize = 0;
     while k < BUCKETS {
         let read = amount_at(body, from + 4 * k);
-        let Field::Value(amount) = read else {
+        let Amount::Value(amount) = read else {
             return Amounts::Bad(read.fault());
         };
-        sum += amount as u64;
+        sum.0 += amount.0;
         k += 1;
     }
     Amounts::Sum(sum)

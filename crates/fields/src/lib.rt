@@ -1,5 +1,5 @@
 // A field is its value, unless that is bad. Each reader says what stands at its place in the body by the paper's definition of the field: the value, or the
-// cause with the place of the field, counted from the record's first byte.
+// cause with the place of the field, counted from the record's first byte. Money and rates have answers of their own, on their scales.
 ghost use mathlib.Core.Path.{_≡_};
 ghost use mathlib.Core.Bool.{not, _&&_, _||_};
 ghost use Prim.Native.Nat.{_+_, _<_, _≤_};
@@ -8,11 +8,9 @@ ghost use lib.Signed.{ltZ};
 ghost use Rattle.laws.specs.Tests.{_upTo_, _below_};
 ghost use Rattle.paper.specs.Refusals.{unless};
 ghost use Rattle.paper.specs.Records.{currencies};
-ghost use Rattle.paper.specs.Fields.{currencyAt, sideAt, monthsAt, daysAt, periodAt, countAt, amountAt, optionAt, shareAt, categoryAt, rateAt, shockAt};
-ghost use Rattle.fields.specs.Answers.{fieldOf, signedFieldOf, faultIn, signedFaultIn};
+ghost use Rattle.paper.specs.Fields.{currencyAt, sideAt, monthsAt, daysAt, periodAt, countAt, shareAt, categoryAt, shockAt};
+ghost use Rattle.fields.specs.Answers.{fieldOf, faultIn};
 use crate::bytes::byte_at;
-use crate::bytes::four_at;
-use crate::bytes::signed_at;
 use crate::bytes::two_at;
 use paper::CURRENCIES;
 use paper::Fault;
@@ -20,15 +18,11 @@ use paper::Refusal;
 
 pub mod amounts;
 pub mod bytes;
+pub mod options;
 pub mod rates;
 
 pub enum Field {
     Value(u32),
-    Bad(Fault),
-}
-
-pub enum SignedField {
-    Value(i64),
     Bad(Fault),
 }
 
@@ -40,20 +34,6 @@ impl Field {
         match self {
             Field::Bad(fault) => fault,
             Field::Value(_) => Fault {
-                cause: Refusal::UnknownKind,
-                place: 0,
-            },
-        }
-    }
-}
-
-impl SignedField {
-    pub fn fault(self) -> Fault
-        ensures { λ r. ⌜ r ≡ signedFaultIn self ⌝ }
-    {
-        match self {
-            SignedField::Bad(fault) => fault,
-            SignedField::Value(_) => Fault {
                 cause: Refusal::UnknownKind,
                 place: 0,
             },
@@ -83,16 +63,13 @@ fn between(low: u32, high: u32, x: u32, cause: Refusal, place: usize) -> Field
     Field::Value(x)
 }
 
-fn signed_between(low: i64, high: i64, x: i64, cause: Refusal, place: usize) -> SignedField
-    ensures { λ r. ⌜ r ≡ signedFieldOf (unless (ltZ x low || ltZ high x) cause place x) ⌝ }
+fn outside(low: i64, high: i64, x: i64) -> bool
+    ensures { λ r. ⌜ r ≡ (ltZ x low || ltZ high x) ⌝ }
 {
     if x < low {
-        return SignedField::Bad(Fault { cause, place });
+        return true;
     }
-    if high < x {
-        return SignedField::Bad(Fault { cause, place });
-    }
-    SignedField::Value(x)
+    high < x
 }
 
 pub fn currency_at(body: &[u8], at: usize) -> Field
@@ -162,27 +139,6 @@ pub fn count_at(period: u32, body: &[u8], at: usize) -> Field
     Field::Value(count)
 }
 
-pub fn amount_at(body: &[u8], at: usize) -> Field
-    requires { ⌜ at + 4 ≤ length (now body) ⌝ }
-    ensures { λ r. ⌜ r ≡ fieldOf (amountAt (now (body .entry)) at) ⌝ }
-{
-    at_most(1000000000, four_at(body, at), Refusal::TooLarge, at + 1)
-}
-
-// A value of -2^31 has the magnitude 2^31.
-pub fn option_at(body: &[u8], at: usize) -> SignedField
-    requires { ⌜ at + 4 ≤ length (now body) ⌝ }
-    ensures { λ r. ⌜ r ≡ signedFieldOf (optionAt (now (body .entry)) at) ⌝ }
-{
-    signed_between(
-        -1000000000,
-        1000000000,
-        signed_at(body, at),
-        Refusal::TooLarge,
-        at + 1,
-    )
-}
-
 pub fn share_at(body: &[u8], at: usize) -> Field
     requires { ⌜ at + 2 ≤ length (now body) ⌝ }
     ensures { λ r. ⌜ r ≡ fieldOf (shareAt (now (body .entry)) at) ⌝ }
@@ -195,19 +151,6 @@ pub fn category_at(body: &[u8], at: usize) -> Field
     ensures { λ r. ⌜ r ≡ fieldOf (categoryAt (now (body .entry)) at) ⌝ }
 {
     between(1, 3, byte_at(body, at), Refusal::BadCategory, at + 1)
-}
-
-pub fn rate_at(body: &[u8], at: usize) -> SignedField
-    requires { ⌜ at + 4 ≤ length (now body) ⌝ }
-    ensures { λ r. ⌜ r ≡ signedFieldOf (rateAt (now (body .entry)) at) ⌝ }
-{
-    signed_between(
-        -50000,
-        300000,
-        signed_at(body, at),
-        Refusal::OutOfRange,
-        at + 1,
-    )
 }
 
 pub fn shock_at(body: &[u8], at: usize) -> Field

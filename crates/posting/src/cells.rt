@@ -11,6 +11,7 @@ ghost use Rattle.paper.specs.Ledger.{sectionSize};
 ghost use Rattle.arrays.specs.Slots.{plusℤ};
 ghost use Rattle.posting.specs.Parts.{AtMost, AtMostℤ, column, rowFlow, trillion};
 use ladder::SignedThousands;
+use ladder::Thousands;
 use paper::BUCKETS;
 use paper::SCENARIOS;
 
@@ -25,11 +26,11 @@ pub fn sided(side: u32, value: SignedThousands) -> SignedThousands
     SignedThousands(0 - value.0)
 }
 
-pub fn sided_amount(side: u32, amount: u64) -> SignedThousands
-    requires { ⌜ amount ≤ trillion ⌝ }
-    ensures { λ r. ⌜ r .0 ≡ sided side (pos amount) ⌝ }
+pub fn sided_amount(side: u32, amount: Thousands) -> SignedThousands
+    requires { ⌜ amount .0 ≤ trillion ⌝ }
+    ensures { λ r. ⌜ r .0 ≡ sided side (pos (amount .0)) ⌝ }
 {
-    sided(side, SignedThousands(amount as i64))
+    sided(side, SignedThousands(amount.0 as i64))
 }
 
 pub fn add_into(cells: &mut [i64], at: usize, amount: SignedThousands)
@@ -64,7 +65,7 @@ pub fn add_flows(cells: &mut [i64], side: u32, flows: &[u64])
 {
     let mut j = 0;
     while j < cells.len() {
-        let flow = sided_amount(side, flows[j]);
+        let flow = sided_amount(side, Thousands(flows[j]));
         add_into(cells, j, flow);
         j += 1;
     }

@@ -10,6 +10,7 @@ use crate::Taken;
 use crate::cells::add_rows;
 use crate::over_limit;
 use crate::room::admits;
+use ladder::Thousands;
 use paper::SCENARIOS;
 
 // The sum of the row that each scenario has.
@@ -49,12 +50,18 @@ pub fn enter_rows(
 }
 
 // The same nineteen flows in every scenario.
-pub fn enter_row(row: &[u64], side: u32, size: u64, section: &mut [i64], sizes: &mut [u64]) -> Taken
-    requires { ⌜ (length (now row) ≡ buckets) × AtMost trillion (now row) × (size ≤ trillion) ⌝ }
+pub fn enter_row(
+    row: &[u64],
+    side: u32,
+    size: Thousands,
+    section: &mut [i64],
+    sizes: &mut [u64],
+) -> Taken
+    requires { ⌜ (length (now row) ≡ buckets) × AtMost trillion (now row) × (size .0 ≤ trillion) ⌝ }
     requires { ⌜ FlowParts (now section) (now sizes) ⌝ }
-    ensures { λ r. ⌜ Enters (λ j. getD (now (row .entry)) (j % buckets) 0) side (λ i. size) section sizes r ⌝ }
+    ensures { λ r. ⌜ Enters (λ j. getD (now (row .entry)) (j % buckets) 0) side (λ i. size .0) section sizes r ⌝ }
 {
     let which = [0usize; SCENARIOS];
-    let sums = [size];
+    let sums = [size.0];
     enter_rows(row, &which, side, &sums, section, sizes)
 }

@@ -3,3 +3,5 @@ pub mod BodyLaws
 -- the loops over a deposit's and a loan's buckets
 pub mod DepositLaws
 pub mod LoanLaws
+-- one answer is permitted
+pub mod Unique

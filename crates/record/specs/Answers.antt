@@ -41,16 +41,16 @@ pub record Body (bytes currency : ℕ) (body : List ℕ) : Type 0 where
 -- ---- what was decoded; amounts and rates by bucket stay in the body
 
 abbrev pub singleOf : Single → Flows
-singleOf s = single (s .side) (record { months = s .months; days = s .days }) (s .amount)
+singleOf s = single (s .side) (record { months = s .months; days = s .days }) (s .amount .0)
 
 abbrev pub couponsOf : Coupons → Flows
-couponsOf s = coupons (s .side) (s .period) (s .count) (s .coupon) (s .principal)
+couponsOf s = coupons (s .side) (s .period) (s .count) (s .coupon .0) (s .principal .0)
 
 abbrev pub floatingOf : Floating → Flows
-floatingOf s = floating (s .side) (record { months = s .months; days = s .days }) (s .principal) (s .coupon)
+floatingOf s = floating (s .side) (record { months = s .months; days = s .days }) (s .principal .0) (s .coupon .0)
 
 abbrev pub depositOf : List ℕ → Deposit → Flows
-depositOf body s = deposit (s .category) (s .total) (amountsFrom body 6)
+depositOf body s = deposit (s .category) (s .total .0) (amountsFrom body 6)
 
 abbrev pub loanOf : List ℕ → Loan → Flows
 loanOf body s = loan (s .share) (amountsFrom body 3) (amountsFrom body 79)
@@ -60,7 +60,7 @@ termDepositOf body s = termDeposit (s .share) (amountsFrom body 3)
 
 -- the values of scenarios 1 to 6 in turn
 abbrev pub valuesOf : OptionAddOn → List ℤ
-valuesOf s = s .up ∷ s .down ∷ s .steepener ∷ s .flattener ∷ s .«short_up» ∷ s .«short_down» ∷ []
+valuesOf s = s .up .0 ∷ s .down .0 ∷ s .steepener .0 ∷ s .flattener .0 ∷ s .«short_up» .0 ∷ s .«short_down» .0 ∷ []
 
 -- ---- a record: its fields, or the refusal
 

@@ -4,10 +4,12 @@ ghost use Rattle.paper.specs.Records.{currencies};
 ghost use Rattle.paper.specs.Decode.{decodeCoupons};
 ghost use Rattle.record.specs.Answers.{Body, couponsRead};
 use fields::Field;
-use fields::amount_at;
+use fields::amounts::Amount;
+use fields::amounts::amount_at;
 use fields::count_at;
 use fields::period_at;
 use fields::side_at;
+use ladder::Thousands;
 use paper::Fault;
 
 pub struct Coupons {
@@ -15,8 +17,8 @@ pub struct Coupons {
     pub side: u32,
     pub period: u32,
     pub count: u32,
-    pub coupon: u32,
-    pub principal: u32,
+    pub coupon: Thousands,
+    pub principal: Thousands,
 }
 
 pub enum DecodedCoupons {
@@ -41,11 +43,11 @@ pub fn decode_coupons(currency: u32, body: &[u8]) -> DecodedCoupons
         return DecodedCoupons::Refused(read.fault());
     };
     let read = amount_at(body, 5);
-    let Field::Value(coupon) = read else {
+    let Amount::Value(coupon) = read else {
         return DecodedCoupons::Refused(read.fault());
     };
     let read = amount_at(body, 9);
-    let Field::Value(principal) = read else {
+    let Amount::Value(principal) = read else {
         return DecodedCoupons::Refused(read.fault());
     };
     DecodedCoupons::Is(Coupons {

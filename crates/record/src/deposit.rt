@@ -5,6 +5,7 @@ ghost use mathlib.Core.Path.{_≡_};
 ghost use Prim.Native.Nat.{_+_, _*_, _≤_};
 ghost use lib.ListN.{length, getD};
 ghost use Rattle.laws.specs.Tests.{_below_};
+ghost use Rattle.paper.specs.Scales.{billion};
 ghost use Rattle.paper.specs.Records.{currencies};
 ghost use Rattle.paper.specs.Behaviour.{coreCap, averageCap, weighedCore};
 ghost use Rattle.paper.specs.Decode.{decodeDeposit};
@@ -12,11 +13,13 @@ ghost use Rattle.fields.specs.Answers.{amountsFrom};
 ghost use Rattle.record.specs.Answers.{Body, depositRead};
 use crate::record_fault;
 use fields::Field;
-use fields::amount_at;
+use fields::amounts::Amount;
 use fields::amounts::Amounts;
+use fields::amounts::amount_at;
 use fields::amounts::amounts_at;
 use fields::bytes::four_at;
 use fields::category_at;
+use ladder::Thousands;
 use ladder::midpoints;
 use paper::BUCKETS;
 use paper::Fault;
@@ -25,7 +28,7 @@ use paper::Refusal;
 pub struct Deposit {
     pub currency: u32,
     pub category: u32,
-    pub total: u32,
+    pub total: Thousands,
 }
 
 pub enum DecodedDeposit {
@@ -46,19 +49,19 @@ fn cap_of(category: u32, first: u64, second: u64, third: u64) -> u64
 }
 
 // 9: so many per cent of the total.
-fn above_cap(category: u32, total: u32, core: u64) -> bool
-    requires { ⌜ core ≤ 19_000_000_000 ⌝ }
-    ensures { λ r. ⌜ r ≡ (coreCap category * total below 100 * core) ⌝ }
+fn above_cap(category: u32, total: Thousands, core: Thousands) -> bool
+    requires { ⌜ (total .0 ≤ billion) × (core .0 ≤ 19_000_000_000) ⌝ }
+    ensures { λ r. ⌜ r ≡ (coreCap category * total .0 below 100 * core .0) ⌝ }
 {
-    cap_of(category, 90, 70, 50) * (total as u64) < 100 * core
+    cap_of(category, 90, 70, 50) * total.0 < 100 * core.0
 }
 
 // 10: so many ten-thousandths of a year, on the average.
-fn too_long(category: u32, core: u64, weighed: u64) -> bool
-    requires { ⌜ core ≤ 19_000_000_000 ⌝ }
-    ensures { λ r. ⌜ r ≡ (averageCap category * core below weighed) ⌝ }
+fn too_long(category: u32, core: Thousands, weighed: u64) -> bool
+    requires { ⌜ core .0 ≤ 19_000_000_000 ⌝ }
+    ensures { λ r. ⌜ r ≡ (averageCap category * core .0 below weighed) ⌝ }
 {
-    cap_of(category, 50_000, 45_000, 40_000) * core < weighed
+    cap_of(category, 50_000, 45_000, 40_000) * core.0 < weighed
 }
 
 fn weighed_core(body: &[u8]) -> u64
@@ -84,7 +87,7 @@ pub fn decode_deposit(currency: u32, body: &[u8]) -> DecodedDeposit
         return DecodedDeposit::Refused(read.fault());
     };
     let read = amount_at(body, 2);
-    let Field::Value(total) = read else {
+    let Amount::Value(total) = read else {
         return DecodedDeposit::Refused(read.fault());
     };
     let read = amounts_at(body, 6);

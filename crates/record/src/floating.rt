@@ -4,10 +4,12 @@ ghost use Rattle.paper.specs.Records.{currencies};
 ghost use Rattle.paper.specs.Decode.{decodeFloating};
 ghost use Rattle.record.specs.Answers.{Body, floatingRead};
 use fields::Field;
-use fields::amount_at;
+use fields::amounts::Amount;
+use fields::amounts::amount_at;
 use fields::days_at;
 use fields::months_at;
 use fields::side_at;
+use ladder::Thousands;
 use paper::Fault;
 
 pub struct Floating {
@@ -15,8 +17,8 @@ pub struct Floating {
     pub side: u32,
     pub months: u32,
     pub days: u32,
-    pub principal: u32,
-    pub coupon: u32,
+    pub principal: Thousands,
+    pub coupon: Thousands,
 }
 
 pub enum DecodedFloating {
@@ -41,11 +43,11 @@ pub fn decode_floating(currency: u32, body: &[u8]) -> DecodedFloating
         return DecodedFloating::Refused(read.fault());
     };
     let read = amount_at(body, 5);
-    let Field::Value(principal) = read else {
+    let Amount::Value(principal) = read else {
         return DecodedFloating::Refused(read.fault());
     };
     let read = amount_at(body, 9);
-    let Field::Value(coupon) = read else {
+    let Amount::Value(coupon) = read else {
         return DecodedFloating::Refused(read.fault());
     };
     DecodedFloating::Is(Floating {

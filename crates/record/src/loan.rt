@@ -17,6 +17,7 @@ use fields::amounts::Amounts;
 use fields::amounts::amounts_at;
 use fields::bytes::four_at;
 use fields::share_at;
+use ladder::Thousands;
 use paper::BUCKETS;
 use paper::Fault;
 use paper::Refusal;
@@ -31,28 +32,29 @@ pub enum DecodedLoan {
     Refused(Fault),
 }
 
-fn alone(interest: u32, scheduled: u64) -> bool
-    ensures { λ r. ⌜ r ≡ (0 below interest && scheduled is 0) ⌝ }
+fn alone(interest: Thousands, scheduled: Thousands) -> bool
+    ensures { λ r. ⌜ r ≡ (0 below interest .0 && scheduled .0 is 0) ⌝ }
 {
-    if interest < 1 {
+    if interest.0 < 1 {
         return false;
     }
-    scheduled == 0
+    scheduled.0 == 0
 }
 
 // 11: the first bucket, counted from 0, with interest and no scheduled principal in it or after; 19 where there is none.
-fn interest_alone(body: &[u8], principal: u64) -> usize
+fn interest_alone(body: &[u8], principal: Thousands) -> usize
     requires { ⌜ length (now body) ≡ 155 ⌝ }
-    requires { ⌜ principal ≡ sumOf (amountsFrom (now body) 3) ⌝ }
+    requires { ⌜ principal .0 ≡ sumOf (amountsFrom (now body) 3) ⌝ }
     ensures { λ r. ⌜ r ≡ first (interestAlone (amountsFrom (now (body .entry)) 3) (amountsFrom (now (body .entry)) 79)) 0 buckets ⌝ }
 {
     let mut scheduled = principal;
     let mut k: usize = 0;
     while k < BUCKETS {
-        if alone(four_at(body, 79 + 4 * k), scheduled) {
+        let interest = Thousands(four_at(body, 79 + 4 * k) as u64);
+        if alone(interest, scheduled) {
             return k;
         }
-        scheduled -= four_at(body, 3 + 4 * k) as u64;
+        scheduled.0 -= four_at(body, 3 + 4 * k) as u64;
         k += 1;
     }
     BUCKETS
@@ -81,7 +83,7 @@ pub fn decode_loan(currency: u32, body: &[u8]) -> DecodedLoan
             place: 80 + 4 * bare,
         });
     }
-    if 1000000000 < principal + interest {
+    if 1000000000 < principal.0 + interest.0 {
         return DecodedLoan::Refused(record_fault(Refusal::OverLimit));
     }
     DecodedLoan::Is(Loan { currency, share })

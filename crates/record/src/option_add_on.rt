@@ -6,20 +6,21 @@ ghost use Rattle.paper.specs.Fields.{sideAt};
 ghost use Rattle.paper.specs.Decode.{decodeOption};
 ghost use Rattle.record.specs.Answers.{Body, optionRead};
 use fields::Field;
-use fields::SignedField;
-use fields::option_at;
+use fields::options::OptionValue;
+use fields::options::option_at;
 use fields::side_at;
+use ladder::SignedThousands;
 use paper::Fault;
 
 pub struct OptionAddOn {
     pub currency: u32,
     pub side: u32,
-    pub up: i64,
-    pub down: i64,
-    pub steepener: i64,
-    pub flattener: i64,
-    pub short_up: i64,
-    pub short_down: i64,
+    pub up: SignedThousands,
+    pub down: SignedThousands,
+    pub steepener: SignedThousands,
+    pub flattener: SignedThousands,
+    pub short_up: SignedThousands,
+    pub short_down: SignedThousands,
 }
 
 pub enum DecodedOption {
@@ -33,27 +34,27 @@ fn decode_values(currency: u32, side: u32, body: &[u8]) -> DecodedOption
     ensures { λ r. ⌜ optionRead r ≡ decodeOption currencies (now (body .entry)) ⌝ }
 {
     let read = option_at(body, 2);
-    let SignedField::Value(up) = read else {
+    let OptionValue::Value(up) = read else {
         return DecodedOption::Refused(read.fault());
     };
     let read = option_at(body, 6);
-    let SignedField::Value(down) = read else {
+    let OptionValue::Value(down) = read else {
         return DecodedOption::Refused(read.fault());
     };
     let read = option_at(body, 10);
-    let SignedField::Value(steepener) = read else {
+    let OptionValue::Value(steepener) = read else {
         return DecodedOption::Refused(read.fault());
     };
     let read = option_at(body, 14);
-    let SignedField::Value(flattener) = read else {
+    let OptionValue::Value(flattener) = read else {
         return DecodedOption::Refused(read.fault());
     };
     let read = option_at(body, 18);
-    let SignedField::Value(short_up) = read else {
+    let OptionValue::Value(short_up) = read else {
         return DecodedOption::Refused(read.fault());
     };
     let read = option_at(body, 22);
-    let SignedField::Value(short_down) = read else {
+    let OptionValue::Value(short_down) = read else {
         return DecodedOption::Refused(read.fault());
     };
     DecodedOption::Is(OptionAddOn {

@@ -4,10 +4,12 @@ ghost use Rattle.paper.specs.Records.{currencies};
 ghost use Rattle.paper.specs.Decode.{decodeSingle};
 ghost use Rattle.record.specs.Answers.{Body, singleRead};
 use fields::Field;
-use fields::amount_at;
+use fields::amounts::Amount;
+use fields::amounts::amount_at;
 use fields::days_at;
 use fields::months_at;
 use fields::side_at;
+use ladder::Thousands;
 use paper::Fault;
 
 pub struct Single {
@@ -15,7 +17,7 @@ pub struct Single {
     pub side: u32,
     pub months: u32,
     pub days: u32,
-    pub amount: u32,
+    pub amount: Thousands,
 }
 
 pub enum DecodedSingle {
@@ -40,7 +42,7 @@ pub fn decode_single(currency: u32, body: &[u8]) -> DecodedSingle
         return DecodedSingle::Refused(read.fault());
     };
     let read = amount_at(body, 5);
-    let Field::Value(amount) = read else {
+    let Amount::Value(amount) = read else {
         return DecodedSingle::Refused(read.fault());
     };
     DecodedSingle::Is(Single {

@@ -12,6 +12,7 @@ ghost use Rattle.paper.specs.Decode.{decodeCoupons};
 ghost use Rattle.record.specs.Answers.{Body};
 ghost use Rattle.posting.specs.Parts.{FlowParts};
 ghost use Rattle.posting.specs.Answers.{TakesFlows};
+use ladder::Thousands;
 use ladder::bucket_of;
 use paper::BUCKETS;
 use posting::Taken;
@@ -53,21 +54,21 @@ fn due_by(end: u32, period: u32, count: u32) -> u32
     periods
 }
 
-fn coupon_row(period: u32, count: u32, coupon: u32, principal: u32, row: &mut [u64])
-    requires { ⌜ (1 ≤ period) × (period * count ≤ 600) × (coupon ≤ billion) × (length (now row) ≡ buckets) ⌝ }
-    ensures { λ _. ⌜ now (row .exit) ≡ tabulate (λ k. couponsDue period count coupon k + due (inMonths (period * count)) principal k) buckets ⌝ }
+fn coupon_row(period: u32, count: u32, coupon: Thousands, principal: Thousands, row: &mut [u64])
+    requires { ⌜ (1 ≤ period) × (period * count ≤ 600) × (coupon .0 ≤ billion) × (principal .0 ≤ billion) × (length (now row) ≡ buckets) ⌝ }
+    ensures { λ _. ⌜ now (row .exit) ≡ tabulate (λ k. couponsDue period count (coupon .0) k + due (inMonths (period * count)) (principal .0) k) buckets ⌝ }
 {
     let ends = MONTH_ENDS;
     let mut before: u32 = 0;
     let mut k: usize = 0;
     while k < BUCKETS {
         let by = due_by(ends[k], period, count);
-        row[k] = ((by - before) as u64) * (coupon as u64);
+        row[k] = ((by - before) as u64) * coupon.0;
         before = by;
         k += 1;
     }
     let last = bucket_of(period * count, 0) - 1;
-    row[last] += principal as u64;
+    row[last] += principal.0;
 }
 
 pub fn take_coupons(currency: u32, body: &[u8], section: &mut [i64], sizes: &mut [u64]) -> Taken
@@ -78,7 +79,7 @@ pub fn take_coupons(currency: u32, body: &[u8], section: &mut [i64], sizes: &mut
     match decode_coupons(currency, body) {
         DecodedCoupons::Refused(fault) => Taken::Refused(fault),
         DecodedCoupons::Is(bond) => {
-            let size = (bond.count as u64) * (bond.coupon as u64) + bond.principal as u64;
+            let size = Thousands((bond.count as u64) * bond.coupon.0 + bond.principal.0);
             let mut row = [0u64; BUCKETS];
             coupon_row(
                 bond.period,

@@ -5,6 +5,7 @@ ghost use Rattle.record.specs.Answers.{Body};
 ghost use Rattle.posting.specs.Parts.{FlowParts};
 ghost use Rattle.posting.specs.Answers.{TakesFlows};
 use crate::due::slot_due;
+use ladder::Thousands;
 use posting::Taken;
 use record::floating::DecodedFloating;
 use record::floating::decode_floating;
@@ -20,7 +21,7 @@ pub fn take_floating(currency: u32, body: &[u8], section: &mut [i64], sizes: &mu
             position.side,
             position.months,
             position.days,
-            position.principal as u64 + position.coupon as u64,
+            Thousands(position.principal.0 + position.coupon.0),
             section,
             sizes,
         ),

@@ -74,12 +74,12 @@ pub fn take_option(currency: u32, body: &[u8], sizes: &mut [u64], addons: &mut [
         DecodedOption::Refused(fault) => Taken::Refused(fault),
         DecodedOption::Is(option) => {
             let values = [
-                option.up,
-                option.down,
-                option.steepener,
-                option.flattener,
-                option.short_up,
-                option.short_down,
+                option.up.0,
+                option.down.0,
+                option.steepener.0,
+                option.flattener.0,
+                option.short_up.0,
+                option.short_down.0,
             ];
             slot_values(option.side, &values, sizes, addons)
         }

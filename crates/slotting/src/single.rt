@@ -20,7 +20,7 @@ pub fn take_single(currency: u32, body: &[u8], section: &mut [i64], sizes: &mut 
             flow.side,
             flow.months,
             flow.days,
-            flow.amount as u64,
+            flow.amount,
             section,
             sizes,
         ),

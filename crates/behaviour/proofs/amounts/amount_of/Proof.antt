@@ -15,9 +15,6 @@ add-four-at c = search needs
 four-at-requires : tie.Need-four-at-requires
 four-at-requires c κs = search needs
 
-cast-result : tie.Need-cast-result
-cast-result c = search needs
-
 returns : tie.Need-returns
 returns c =
     let s = c .before .before in
@@ -26,4 +23,4 @@ returns c =
     (read, rw read (s .pre .1 (s .args .k)))
 
 pub amount-of-spec : {M : Type 1} → statement M
-amount-of-spec = tie.close (tie.spec mul-four-at add-four-at four-at-requires cast-result returns)
+amount-of-spec = tie.close (tie.spec mul-four-at add-four-at four-at-requires (λ c. search needs) returns)

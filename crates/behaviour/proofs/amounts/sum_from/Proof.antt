@@ -14,7 +14,7 @@ use Rattle.behaviour.proofs.amounts.sum_from.Tie as tie
 
 abbrev Inv-loop : tie.InvT-loop
 Inv-loop body from total₀ k₀ total k =
-    (k ≤ 19) × (total ≡ sum (λ j. getD (amountsFrom body from) j 0) k) × (total ≤ k * 1000000000)
+    (k ≤ 19) × (total .0 ≡ sum (λ j. getD (amountsFrom body from) j 0) k) × (total .0 ≤ k * 1000000000)
 
 abbrev μ-loop : tie.MeasureT-loop
 μ-loop body from total₀ k₀ total k = 19 - k
@@ -27,7 +27,7 @@ amount-of-requires : tie.Need-amount-of-requires Inv-loop μ-loop
 amount-of-requires c κs = search needs
 
 add-total : tie.Need-add-total Inv-loop μ-loop
-add-total c = record { fits = omega (arith, c .before .before .loop .inv .2, c .amount-of .ensures .1) }
+add-total c = let p = c .before .before in record { fits = omega (arith, p .before .before .loop .inv .2, p .amount-of .ensures .1) }
 
 add-k : tie.Need-add-k Inv-loop μ-loop
 add-k c = search needs
@@ -37,8 +37,9 @@ loop-less c = search needs
 
 loop-again : tie.Need-loop-again Inv-loop μ-loop
 loop-again c =
-    let at = c .before .before .loop in
-    let amount = c .amount-of .ensures in
+    let p = c .before .before in
+    let at = p .before .before .loop in
+    let amount = p .amount-of .ensures in
     (search needs, ap₂ _+_ (at .inv .1) (amount .0) ∙ sym (sum-more _ (at .k)), omega (arith, at .inv .2, amount .1))
 
 returns : tie.Need-returns Inv-loop μ-loop

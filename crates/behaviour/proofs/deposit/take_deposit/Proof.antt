@@ -42,9 +42,9 @@ module _ (c : tie.After-known-told2) where
   sound : SoundFlows (depositOf body fields)
   sound = flows-sound (λ _. false) (deposit-kind currencies (λ _. false) body .sound) read
 
-  within : sumOf (amountsFrom body 6) ≤ fields .total
+  within : sumOf (amountsFrom body 6) ≤ fields .total .0
   unfolding SoundFlows
-  within = core-within (fields .category) (fields .total) (amountsFrom body 6) (sound .3)
+  within = core-within (fields .category) (fields .total .0) (amountsFrom body 6) (sound .3)
 
 decode-deposit-requires : tie.Need-decode-deposit-requires
 decode-deposit-requires c κs = c .before .before .pre .0
@@ -55,16 +55,13 @@ enum-known-fault c = search needs
 enum-known-deposit : tie.Need-enum-known-deposit
 enum-known-deposit c = search needs
 
-cast-total : tie.Need-cast-total
-cast-total c = search needs
-
 slice-aggregate-core-row : tie.Need-slice-aggregate-core-row
 slice-aggregate-core-row c = search needs
 
 core-row-requires : tie.Need-core-row-requires
 unfolding SoundFlows
 core-row-requires c κs =
-    let w = c .before .before in
+    let w = c .before in
     ((w .before .before .before .before .before .before .pre .0 .long, sound w .1 .to, refl), (amounts-small (sound w .2), within w))
 
 slice-aggregate-enter-row : tie.Need-slice-aggregate-enter-row
@@ -73,8 +70,8 @@ slice-aggregate-enter-row c = search needs
 enter-row-requires : tie.Need-enter-row-requires
 unfolding SoundFlows
 enter-row-requires c κs =
-    let w = c .before .before .before .before .before .before .before in
-    let whole = fields w .total in
+    let w = c .before .before .before .before .before .before in
+    let whole = fields w .total .0 in
     let core = amountsFrom (body w) 6 in
     let filled = c .before .before .before .before .core-row .ensures in (
       (
@@ -98,11 +95,13 @@ same-length-2 c = search needs
 returns-2 : tie.Need-returns-2
 unfolding SoundFlows
 returns-2 c =
-    let w = c .before .before .before .before .before .before .before .before .before .before .before in
+    let w = c .before .before .before .before .before .before .before .before .before .before in
     let d = fields w in
+    let whole = d .total .0 in
     let core = amountsFrom (body w) 6 in
-    row-taken _ (read w) 2 (w .before .before .before .before .before .before .pre .1) (depositFlow (d .total) core) (d .total) (c .before .before .before .before .before .before .before .before .core-row .ensures) (core-flow (d .currency) (d .category) (d .total) core)
-    (λ i. size-deposit (d .currency) i (d .category) (d .total) core (amounts-few (body w) 6) (within w)) (c .before .before .before .enter-row .ensures)
+    row-taken _ (read w) 2 (w .before .before .before .before .before .before .pre .1) (depositFlow whole core) whole
+    (c .before .before .before .before .before .before .before .before .core-row .ensures) (core-flow (d .currency) (d .category) whole core)
+    (λ i. size-deposit (d .currency) i (d .category) whole core (amounts-few (body w) 6) (within w)) (c .before .before .before .enter-row .ensures)
 
 pub take-deposit-spec : {M : Type 1} → statement M
 take-deposit-spec =
@@ -111,7 +110,6 @@ take-deposit-spec =
     decode-deposit-requires
     enum-known-fault
     enum-known-deposit
-    cast-total
     slice-aggregate-core-row
     core-row-requires
     slice-aggregate-enter-row

@@ -1,4 +1,4 @@
-use Prim.Native.Nat.{ℕ, _+_, _-_}
+use Prim.Native.Nat.{ℕ, _+_, _-_, _≤_}
 use mathlib.Core.Path.{ap₂}
 use native.Mathlib.Omega.{arith}
 use borrow.Author.Needs.{needs}
@@ -11,32 +11,39 @@ paid-requires c κs = search needs
 prepaid-requires : tie.Need-prepaid-requires
 prepaid-requires c κs = (search needs, search needs)
 
-add-t8 : tie.Need-add-t8
-add-t8 c =
-    record { fits = omega (arith, c .before .paid .ensures .0, c .prepaid .ensures .1, c .before .before .pre .0 .2, c .before .before .pre .0 .3) }
-
 interest-requires : tie.Need-interest-requires
 interest-requires c κs =
     let s = c .before .before in
     ((s .pre .0 .1, s .pre .0 .2, s .pre .0 .3), s .pre .1)
 
-add-t10 : tie.Need-add-t10
-add-t10 c =
-    let s = c .before .before .before in
-    record { fits = omega (arith, c .before .before .paid .ensures .0, c .before .prepaid .ensures .1, c .interest .ensures .1, s .pre .0 .1, s .pre .0 .2, s .pre .0 .3) }
+-- payment and prepayment are within the balance
+within : (c : tie.After-interest) → c .before .before .paid .result .0 + c .before .prepaid .result .0 ≤ c .before .before .before .args .outstanding .0
+within c = omega (arith, c .before .before .paid .ensures .0, c .before .prepaid .ensures .1)
 
-sub-t11 : tie.Need-sub-t11
-sub-t11 c = c .before .before .paid .ensures .1
+add-taken : tie.Need-add-t9
+add-taken c =
+    let s = c .before .before .before .before .before in
+    record { fits = omega (arith, within (c .before .before), s .pre .0 .2, s .pre .0 .3) }
 
-sub-t12 : tie.Need-sub-t12
-sub-t12 c = omega (arith, c .before .before .paid .ensures .0, c .before .prepaid .ensures .1)
+add-flow : tie.Need-add-t10
+add-flow c =
+    let p = c .before .before .before in
+    let s = p .before .before .before in
+    record { fits = omega (arith, within p, p .interest .ensures .1, s .pre .0 .1, s .pre .0 .2, s .pre .0 .3) }
+
+sub-paid : tie.Need-sub-t12
+sub-paid c = c .before .before .before .before .before .before .before .paid .ensures .1
+
+sub-left : tie.Need-sub-t13
+sub-left c = omega (arith, within (c .before .before .before .before .before .before))
 
 returns : tie.Need-returns
 returns c =
-    let scheduled = c .before .before .paid .ensures .0 in
-    let early = c .before .prepaid .ensures .0 in (
-      ap₂ _+_ (ap₂ _+_ scheduled early) (c .interest .ensures .0),
-      ap₂ (λ (x y : ℕ). c .before .before .before .args .outstanding - x - y) scheduled early,
+    let p = c .before .before .before .before .before .before in
+    let scheduled = p .before .before .paid .ensures .0 in
+    let early = p .before .prepaid .ensures .0 in (
+      ap₂ _+_ (ap₂ _+_ scheduled early) (p .interest .ensures .0),
+      ap₂ (λ (x y : ℕ). p .before .before .before .args .outstanding .0 - x - y) scheduled early,
     )
 
 pub bucket-step-spec : {M : Type 1} → statement M
@@ -45,9 +52,9 @@ bucket-step-spec =
     (tie.spec
     paid-requires
     prepaid-requires
-    add-t8
     interest-requires
-    add-t10
-    sub-t11
-    sub-t12
+    add-taken
+    add-flow
+    sub-paid
+    sub-left
     returns)

@@ -18,18 +18,24 @@ use Rattle.behaviour.proofs.loan.loan_row.Statement.{statement}
 use Rattle.behaviour.proofs.loan.loan_row.Tie as tie
 
 abbrev Inv-loop : tie.InvT-loop
-Inv-loop body rate principal row₀ outstanding₀ remaining₀ total₀ k₀ row outstanding remaining total k =
+Inv-loop body rate row₀ outstanding₀ remaining₀ total₀ k₀ row outstanding remaining total k =
     (k ≤ 19) × (length row ≡ 19) × Filled 0 k (loanFlow rate (amountsFrom body 3) (amountsFrom body 79)) row
-    × (total ≡ sum (loanFlow rate (amountsFrom body 3) (amountsFrom body 79)) k)
-    × (outstanding ≡ outstandingAt rate (amountsFrom body 3) k) × (remaining ≡ scheduledAt (amountsFrom body 3) k)
+    × (total .0 ≡ sum (loanFlow rate (amountsFrom body 3) (amountsFrom body 79)) k)
+    × (outstanding .0 ≡ outstandingAt rate (amountsFrom body 3) k) × (remaining .0 ≡ scheduledAt (amountsFrom body 3) k)
 
 abbrev μ-loop : tie.MeasureT-loop
-μ-loop body rate principal row₀ outstanding₀ remaining₀ total₀ k₀ row outstanding remaining total k = 19 - k
+μ-loop body rate row₀ outstanding₀ remaining₀ total₀ k₀ row outstanding remaining total k = 19 - k
 
 -- what is known before a step
 before : (c : tie.After-amount-of2 Inv-loop μ-loop)
-    → Before (c .before .before .before .before .before .before .args .rate) (amountsFrom (c .before .before .before .before .before .before .args .body .now) 3) (amountsFrom (c .before .before .before .before .before .before .args .body .now) 79)
-    (c .before .before .before .loop .k) (c .before .amount-of .result) (c .amount-of2 .result) (c .before .before .before .loop .outstanding) (c .before .before .before .loop .remaining)
+    → Before (c .before .before .before .before .before .before .args .rate)
+    (amountsFrom (c .before .before .before .before .before .before .args .body .now) 3)
+    (amountsFrom (c .before .before .before .before .before .before .args .body .now) 79)
+    (c .before .before .before .loop .k)
+    (c .before .amount-of .result .0)
+    (c .amount-of2 .result .0)
+    (c .before .before .before .loop .outstanding .0)
+    (c .before .before .before .loop .remaining .0)
 before c = record {
   principal-is = c .before .amount-of .ensures .0;
   charge-is = c .amount-of2 .ensures .0;
@@ -67,16 +73,18 @@ slice-write-row c = search needs
 
 add-total : tie.Need-add-total Inv-loop μ-loop
 add-total c =
-    let s = c .before .before .before .before .before .before .before .before in
-    let at = c .before .before .before .before .before .loop in
-    let flow = flow-is (s .args .rate) _ _ (before (c .before .before)) _ (c .before .bucket-step .ensures .0) in
+    let p = c .before .before in
+    let s = p .before .before .before .before .before .before .before in
+    let at = p .before .before .before .before .loop in
+    let flow = flow-is (s .args .rate) _ _ (before (p .before)) _ (p .bucket-step .ensures .0) in
     let body = s .args .body .now in
     let all = loan-sum (s .args .rate) (amountsFrom body 3) (amountsFrom body 79) (at .k + 1) (omega arith) (amounts-few body 79) in
     record { fits = omega (arith, at .inv .3, flow, sum-more (loanFlow (s .args .rate) (amountsFrom body 3) (amountsFrom body 79)) (at .k), all, s .pre .1 .1 .all-small) }
 
 sub-remaining : tie.Need-sub-remaining Inv-loop μ-loop
 sub-remaining c =
-    rest-is (c .before .before .before .before .before .before .before .before .args .rate) _ _ (before (c .before .before)) .0
+    let p = c .before .before .before .before .before in
+    rest-is (p .before .before .before .before .before .before .before .args .rate) _ _ (before (p .before)) .0
 
 add-k : tie.Need-add-k Inv-loop μ-loop
 add-k c = search needs
@@ -86,15 +94,16 @@ loop-less c = search needs
 
 loop-again : tie.Need-loop-again Inv-loop μ-loop
 loop-again c =
-    let rate = c .before .before .before .before .before .before .before .before .args .rate in
-    let at = c .before .before .before .before .before .loop in
-    let b = before (c .before .before) in
-    let flow = flow-is rate _ _ b _ (c .before .bucket-step .ensures .0) in (
+    let p = c .before .before .before .before .before in
+    let rate = p .before .before .before .before .before .before .before .args .rate in
+    let at = p .before .before .before .before .loop in
+    let b = before (p .before) in
+    let flow = flow-is rate _ _ b _ (p .bucket-step .ensures .0) in (
       omega arith,
       search needs,
       filled-next 0 _ (at .row) (at .k) _ (at .inv .2) flow (search needs),
       ap₂ _+_ (at .inv .3) flow ∙ sym (sum-more _ (at .k)),
-      rw add-one (left-is rate _ _ b _ (c .before .bucket-step .ensures .1)),
+      rw add-one (left-is rate _ _ b _ (p .bucket-step .ensures .1)),
       rw add-one (rest-is rate _ _ b .1),
     )
 

@@ -6,12 +6,12 @@ use Rattle.paper.proofs.Deposits.{moved-at-most}
 use Rattle.behaviour.proofs.term_deposit.moved.Statement.{statement}
 use Rattle.behaviour.proofs.term_deposit.moved.Tie as tie
 
-mul-result : tie.Need-mul-result
-mul-result c = record { fits = omega (arith, mul-le-mul (c .pre .1) (c .pre .0)) }
+mul-result : tie.Need-mul-t3
+mul-result c = record { fits = omega (arith, mul-le-mul (c .before .pre .1) (c .before .pre .0)) }
 
 returns : tie.Need-returns
 unfolding moved
-returns c = (refl, moved-at-most (c .args .rate) (c .args .amount) (c .pre .0))
+returns c = let s = c .before in (refl, moved-at-most (s .args .rate) (s .args .amount .0) (s .pre .0))
 
 pub moved-spec : {M : Type 1} → statement M
 moved-spec = tie.close (tie.spec mul-result returns)

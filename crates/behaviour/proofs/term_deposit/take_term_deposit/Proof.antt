@@ -1,8 +1,9 @@
 -- `take_term_deposit`: refused by its decoder, or the rows of three rates entered.
-use Prim.Native.Nat.{ℕ, _/_, _%_, _≤_}
+use Prim.Native.Nat.{ℕ, _/_, _%_, _<_, _≤_}
 use lib.IntN.{pos}
 use lib.ListN.{replicate, getD-replicate}
 use Rattle.laws.specs.Tests.{all}
+use Rattle.laws.specs.Sums.{sumOf}
 use Rattle.paper.specs.Ladder.{buckets}
 use Rattle.paper.specs.Behaviour.{behaviouralRate, withdrawalMultipliers, termDepositFlow}
 use Rattle.paper.specs.Flow.{sided}
@@ -90,18 +91,23 @@ slice-aggregate-enter-rows-2 c = search needs
 slice-aggregate-enter-rows-3 : tie.Need-slice-aggregate-enter-rows-3
 slice-aggregate-enter-rows-3 c = search needs
 
+-- no flow is above all that is deposited
+row-within : (w : tie.After-known-told2) (n k : ℕ) → k < buckets → row w n k ≤ sumOf (amountsFrom (body w) 3)
+row-within w n k l =
+    withdrawn-small (behaviouralRate threeMultipliers (fields w .share) n) (amountsFrom (body w) 3) (rate-at-most threeMultipliers (fields w .share) n)
+    (amounts-few (body w) 3) k l
+
 enter-rows-requires : tie.Need-enter-rows-requires
 enter-rows-requires c κs =
     let w = c .before .before .before .before .before .before .before .before .before in
     let filled = c .before .before .before .before .before .before .before .withdrawn-rows .ensures in
-    let size = c .before .before .before .before .before .sum-from .ensures in
-    let rate = behaviouralRate threeMultipliers (fields w .share) in (
+    let size = c .before .before .before .before .before .sum-from .ensures in (
       record {
         rows-long = row-long (byPlace (row w)) 57 filled;
         which-long = refl;
         which-in = tied-within which withdrawalMultipliers chosen;
-        rows-small = row-small (byPlace (row w)) 57 trillion filled (λ j l. omega (arith, withdrawn-small (rate (j / buckets)) (amountsFrom (body w) 3) (rate-at-most threeMultipliers (fields w .share) (j / buckets)) (amounts-few (body w) 3) (j % buckets) (omega arith), size .0, size .1));
-        sums-small = replicate-all 0 (λ n. n ≤ trillion) 3 (c .before .before .before .before .before .sum-from .result) (omega (arith, size .1)) (omega arith);
+        rows-small = row-small (byPlace (row w)) 57 trillion filled (λ j l. omega (arith, row-within w (j / buckets) (j % buckets) (omega arith), size .0, size .1));
+        sums-small = replicate-all 0 (λ n. n ≤ trillion) 3 (c .before .before .before .before .before .sum-from .result .0) (omega (arith, size .1)) (omega arith);
       },
       w .before .before .before .before .before .before .pre .1,
     )
@@ -123,9 +129,11 @@ returns-2 c =
     let amounts = amountsFrom (body w) 3 in
     let sum = c .before .before .before .before .before .before .before .before .before .sum-from in
     let within = tied-within which withdrawalMultipliers chosen in
-    rows-taken _ (read w) 2 (w .before .before .before .before .before .before .pre .1) (row w) which (replicate 3 (sum .result)) (c .before .before .before .before .before .before .before .before .before .before .before .withdrawn-rows .ensures) within
-    (λ i k o. ap (λ (x : ℕ). sided 2 (pos (termDepositFlow x amounts k))) (tied-rate which withdrawalMultipliers chosen i o (d .share)) ∙ withdrawn-flow (d .currency) (d .share) amounts i k)
-    (λ i o. getD-replicate 3 _ (sum .result) 0 (within i o) ∙ sum .ensures .0 ∙ sym (size-term-deposit (d .currency) i (d .share) amounts (amounts-few (body w) 3)))
+    rows-taken _ (read w) 2 (w .before .before .before .before .before .before .pre .1) (row w) which (replicate 3 (sum .result .0))
+    (c .before .before .before .before .before .before .before .before .before .before .before .withdrawn-rows .ensures) within
+    (λ i k o. ap (λ (x : ℕ). sided 2 (pos (termDepositFlow x amounts k))) (tied-rate which withdrawalMultipliers chosen i o (d .share))
+    ∙ withdrawn-flow (d .currency) (d .share) amounts i k)
+    (λ i o. getD-replicate 3 _ (sum .result .0) 0 (within i o) ∙ sum .ensures .0 ∙ sym (size-term-deposit (d .currency) i (d .share) amounts (amounts-few (body w) 3)))
     (c .before .before .before .enter-rows .ensures)
 
 pub take-term-deposit-spec : {M : Type 1} → statement M

@@ -18,7 +18,7 @@ use Rattle.behaviour.proofs.term_deposit.withdrawn.Tie as tie
 abbrev Inv-loop : tie.InvT-loop
 Inv-loop body rate row₀ early₀ k₀ row early k =
     (k ≤ 19) × (length row ≡ 19) × Filled 0 k (λ j. getD (amountsFrom body 3) j 0 - moved rate (getD (amountsFrom body 3) j 0)) row
-    × (early ≡ sum (λ j. moved rate (getD (amountsFrom body 3) j 0)) k) × (early ≤ k * 1000000000)
+    × (early .0 ≡ sum (λ j. moved rate (getD (amountsFrom body 3) j 0)) k) × (early .0 ≤ k * 1000000000)
 
 abbrev μ-loop : tie.MeasureT-loop
 μ-loop body rate row₀ early₀ k₀ row early k = 19 - k
@@ -45,7 +45,8 @@ slice-write-row c = search needs
 
 add-early : tie.Need-add-early Inv-loop μ-loop
 add-early c =
-    record { fits = omega (arith, c .before .before .before .loop .inv .4, c .moved .ensures .1, c .before .amount-of .ensures .1) }
+    let p = c .before .before .before .before in
+    record { fits = omega (arith, p .before .before .before .loop .inv .4, p .moved .ensures .1, p .before .amount-of .ensures .1) }
 
 add-k : tie.Need-add-k Inv-loop μ-loop
 add-k c = search needs
@@ -55,15 +56,16 @@ loop-less c = search needs
 
 loop-again : tie.Need-loop-again Inv-loop μ-loop
 loop-again c =
-    let s = c .before .before .before .before .before .before in
-    let at = c .before .before .before .loop in
-    let amount = c .before .amount-of .ensures in
-    let part = c .moved .ensures .0 ∙ ap (moved (s .args .rate)) (amount .0) in (
+    let p = c .before .before .before .before in
+    let s = p .before .before .before .before .before .before in
+    let at = p .before .before .before .loop in
+    let amount = p .before .amount-of .ensures in
+    let part = p .moved .ensures .0 ∙ ap (moved (s .args .rate)) (amount .0) in (
       search needs,
       search needs,
       filled-next 0 _ (at .row) (at .k) _ (at .inv .2) (ap₂ _-_ (amount .0) part) (search needs),
       ap₂ _+_ (at .inv .3) part ∙ sym (sum-more _ (at .k)),
-      omega (arith, at .inv .4, c .moved .ensures .1, amount .1),
+      omega (arith, at .inv .4, p .moved .ensures .1, amount .1),
     )
 
 slice-read-row : tie.Need-slice-read-row Inv-loop μ-loop
@@ -71,8 +73,9 @@ slice-read-row c = search needs
 
 add-row : tie.Need-add-row Inv-loop μ-loop
 add-row c =
-    let s = c .before .before .before .before .before in
-    let at = c .before .before .loop in
+    let p = c .before .before .before in
+    let s = p .before .before .before in
+    let at = p .loop in
     record { fits = omega (arith, at .inv .2 0 (omega arith), at .inv .4, s .pre .1 0) }
 
 slice-write-row-2 : tie.Need-slice-write-row-2 Inv-loop μ-loop
@@ -80,14 +83,17 @@ slice-write-row-2 c = search needs
 
 same-length : tie.Need-same-length Inv-loop μ-loop
 same-length c =
-    length-set (c .before .before .loop .row) 0 _ ∙ c .before .before .loop .inv .1 ∙ sym (c .before .before .before .before .before .pre .0 .2)
+    let p = c .before .before .before in
+    length-set (p .loop .row) 0 _ ∙ p .loop .inv .1 ∙ sym (p .before .before .before .pre .0 .2)
 
 returns : tie.Need-returns Inv-loop μ-loop
 returns c =
-    let s = c .before .before .before .before .before in
-    let at = c .before .before .loop in
+    let p = c .before .before .before in
+    let s = p .before .before .before in
+    let at = p .loop in
     let last : at .k ≡ 19 = omega arith in
-    withdrawn-row (s .args .rate) (amountsFrom (s .args .body .now) 3) (at .row) (at .early) (rw (tabulate-length _ 19) (le-refl 19)) (at .inv .1) (rw last at (at .inv .2)) (rw last at (at .inv .3))
+    withdrawn-row (s .args .rate) (amountsFrom (s .args .body .now) 3) (at .row) (at .early .0) (rw (tabulate-length _ 19) (le-refl 19))
+    (at .inv .1) (rw last at (at .inv .2)) (rw last at (at .inv .3))
 
 pub withdrawn-spec : {M : Type 1} → statement M
 withdrawn-spec =

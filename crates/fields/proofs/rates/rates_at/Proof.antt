@@ -6,7 +6,7 @@ use borrow.Author.Needs.{needs}
 use lib.ListN.{length}
 use mir.Syntax.{w64}
 use Rattle.laws.proofs.Widths.{back}
-use Rattle.fields.proofs.Reading.{signed-value, signed-bad}
+use Rattle.fields.proofs.Reading.{rate-value, rate-bad}
 use Rattle.fields.proofs.RateLaws.{Filled, filled-none, filled-length, filled-more, filled-stops, filled-ends}
 use Rattle.fields.proofs.rates.rates_at.Statement.{statement}
 use Rattle.fields.proofs.rates.rates_at.Tie as tie
@@ -30,16 +30,17 @@ returns : tie.Need-returns Inv-loop μ-loop
 returns c =
     let p = c .before .before .before in
     let i = p .before .before in
-    filled-stops _ _ (p .before .loop-test .taken) (i .loop .inv .1) (signed-bad (p .rate-at .ensures) (c .before .enum-told .given .1) (c .fault .ensures))
+    filled-stops _ _ (p .before .loop-test .taken) (i .loop .inv .1) (rate-bad (p .rate-at .ensures) (c .before .enum-told .given .1) (c .fault .ensures))
 
 loop-again : tie.Need-loop-again Inv-loop μ-loop
 loop-again c =
-    let p = c .before .before .before in
+    let t = c .before in
+    let p = t .before .before .before in
     let i = p .before .before in (
       omega arith,
-      rw (back w64 (c .before .read .given .0 .0) (c .known-told .given .0 .1))
+      rw (back w64 (t .before .read .given .0 .0 .0) (c .struct-told .given .0 .1))
           (filled-more _ _ _ _ _ _ (p .before .loop-test .taken) (i .before .before .pre .1) (i .loop .inv .1)
-          (signed-value (p .rate-at .ensures) (c .before .read .given .1))),
+          (rate-value (p .rate-at .ensures) (t .before .read .given .1))),
     )
 
 returns-2 : tie.Need-returns-2 Inv-loop μ-loop
@@ -57,7 +58,7 @@ rates-at-spec =
     (λ c. search needs) (λ c. search needs) (λ c κs. search needs) (λ c. search needs) (λ c. search needs) (λ c κs. search needs)
     same-length
     returns
-    (λ c. search needs) (λ c. omega (arith, kept (c .before .before .before .before .before)))
+    (λ c. search needs) (λ c. omega (arith, kept (c .before .before .before .before .before .before)))
     (λ c. search needs) (λ c. search needs) loop-again
     (λ c. kept (c .before) ∙ sym (c .before .before .before .pre .1))
     returns-2)

@@ -21,12 +21,6 @@ abbrev μ-loop : tie.MeasureT-loop
 loop-holds : tie.Need-loop-holds Inv-loop μ-loop
 loop-holds c = (search needs, search needs, joining-none +ℤ-idr _ _)
 
-mul-sided-amount : tie.Need-mul-sided-amount Inv-loop μ-loop
-mul-sided-amount c = search needs
-
-shared-slice-read-sided-amount : tie.Need-shared-slice-read-sided-amount Inv-loop μ-loop
-shared-slice-read-sided-amount c = search needs
-
 sided-amount-requires : tie.Need-sided-amount-requires Inv-loop μ-loop
 sided-amount-requires c κs = c .before .before .before .before .pre .1 .1 (c .before .before .loop .j)
 
@@ -38,7 +32,8 @@ add-into-requires c κs =
     let same = joining-rest +ℤ-idr (at .inv .2) (at .j) (search needs) (search needs) in (
       search needs,
       rw (c .before .sided-amount .ensures)
-          (sum-fits (getD (at .cells) (at .j) (pos 0)) (sided (s .args .side) (pos n)) (rw same (s .pre .1 .0 (at .j))) (rw (abs-sided (s .args .side) (pos n)) (s .pre .1 .1 (at .j)))),
+          (sum-fits (getD (at .cells) (at .j) (pos 0)) (sided (s .args .side) (pos n)) (rw same (s .pre .1 .0 (at .j)))
+          (rw (abs-sided (s .args .side) (pos n)) (s .pre .1 .1 (at .j)))),
     )
 
 add-j : tie.Need-add-j Inv-loop μ-loop
@@ -65,8 +60,7 @@ add-flows-spec =
     Inv-loop
     μ-loop
     loop-holds
-    mul-sided-amount
-    shared-slice-read-sided-amount
+    (λ c. search needs) (λ c. search needs)
     sided-amount-requires
     add-into-requires
     add-j

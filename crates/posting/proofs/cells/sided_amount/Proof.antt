@@ -11,11 +11,12 @@ cast-t3 : tie.Need-cast-t3
 cast-t3 c = search needs
 
 sided-requires : tie.Need-sided-requires
-sided-requires c κs = rw (toZ-pos w64 {n = c .args .amount} (omega arith)) (c .pre)
+sided-requires c κs = rw (toZ-pos w64 {n = c .before .args .amount .0} (omega arith)) (c .before .pre)
 
 returns : tie.Need-returns
 returns c =
-    c .sided .ensures ∙ ap (sided (c .before .args .side)) (toZ-pos w64 {n = c .before .args .amount} (omega arith))
+    let s = c .before .before in
+    c .sided .ensures ∙ ap (sided (s .args .side)) (toZ-pos w64 {n = s .args .amount .0} (omega arith))
 
 pub sided-amount-spec : {M : Type 1} → statement M
 sided-amount-spec = tie.close (tie.spec cast-t3 sided-requires returns)

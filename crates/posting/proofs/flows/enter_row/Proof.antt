@@ -28,7 +28,7 @@ enter-rows-requires c κs =
         which-long = refl;
         which-in = λ i l. omega (arith, first i);
         rows-small = s .pre .0 .1;
-        sums-small = replicate-all 0 (λ n. n ≤ trillion) 1 (s .args .size) (s .pre .0 .2) (omega arith);
+        sums-small = replicate-all 0 (λ n. n ≤ trillion) 1 (s .args .size .0) (s .pre .0 .2) (omega arith);
       },
       s .pre .1,
     )
@@ -44,7 +44,7 @@ returns c =
     let s = c .before .before .before .before .before .before .before .before .before .before in
     entered-ext (s .args .side) _ _ _ _
     (λ j. let bucket : 19 * getD (replicate 7 0) (j / 19) 0 + j % 19 ≡ j % 19 = omega (arith, first (j / 19)) in ap (λ (k : ℕ). getD (s .args .row .now) k 0) bucket)
-    (λ i. ap (λ (k : ℕ). getD (s .args .size ∷ []) k 0) (first i))
+    (λ i. ap (λ (k : ℕ). getD (s .args .size .0 ∷ []) k 0) (first i))
     (c .before .before .before .enter-rows .ensures)
 
 pub enter-row-spec : {M : Type 1} → statement M

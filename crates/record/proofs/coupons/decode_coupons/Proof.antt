@@ -4,7 +4,7 @@ use borrow.Author.Needs.{needs}
 use Rattle.paper.specs.Records.{currencies}
 use Rattle.paper.specs.Fields.{sideAt, periodAt, countAt, amountAt}
 use Rattle.paper.specs.Decode.{decodeCoupons}
-use Rattle.fields.proofs.Reading.{value, bad}
+use Rattle.fields.proofs.Reading.{value, bad, amount-value, amount-bad}
 use Rattle.record.specs.Answers.{couponsRead}
 use Rattle.record.proofs.BodyLaws.{Left, begin, out, on, then}
 use Rattle.record.proofs.coupons.decode_coupons.Statement.{statement}
@@ -29,7 +29,7 @@ at-coupon c = then (at-count (c .before .before .before .before)) _ (value (c .b
 
 at-principal : tie.After-known-told4 → Left (λ b. amountAt b 9)
 unfolding at-coupon
-at-principal c = then (at-coupon (c .before .before .before .before)) _ (value (c .before .before .before .amount-at .ensures) (c .before .read4 .given .1)) refl
+at-principal c = then (at-coupon (c .before .before .before .before)) _ (amount-value (c .before .before .before .amount-at .ensures) (c .before .read4 .given .1)) refl
 
 returns : tie.Need-returns
 unfolding couponsRead at-side
@@ -45,15 +45,17 @@ returns-3 c = out (at-count (c .before .before .before .before)) (bad (c .before
 
 returns-4 : tie.Need-returns-4
 unfolding couponsRead at-coupon
-returns-4 c = out (at-coupon (c .before .before .before .before)) (bad (c .before .before .before .amount-at .ensures) (c .before .enum-told4 .given .1) (c .fault4 .ensures))
+returns-4 c =
+    out (at-coupon (c .before .before .before .before)) (amount-bad (c .before .before .before .amount-at .ensures) (c .before .enum-told4 .given .1) (c .fault4 .ensures))
 
 returns-5 : tie.Need-returns-5
 unfolding couponsRead at-principal
-returns-5 c = out (at-principal (c .before .before .before .before)) (bad (c .before .before .before .amount-at2 .ensures) (c .before .enum-told5 .given .1) (c .fault5 .ensures))
+returns-5 c =
+    out (at-principal (c .before .before .before .before)) (amount-bad (c .before .before .before .amount-at2 .ensures) (c .before .enum-told5 .given .1) (c .fault5 .ensures))
 
 returns-6 : tie.Need-returns-6
 unfolding couponsRead at-principal
-returns-6 c = sym (on (at-principal (c .before .before .before .before)) (value (c .before .before .before .amount-at2 .ensures) (c .before .read5 .given .1)))
+returns-6 c = sym (on (at-principal (c .before .before .before .before)) (amount-value (c .before .before .before .amount-at2 .ensures) (c .before .read5 .given .1)))
 
 pub decode-coupons-spec : {M : Type 1} → statement M
 decode-coupons-spec =

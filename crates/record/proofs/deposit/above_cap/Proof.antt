@@ -10,11 +10,12 @@ use Rattle.record.proofs.deposit.above_cap.Tie as tie
 
 mul-result : tie.Need-mul-result
 mul-result c =
-    record { fits = omega (arith, mul-le-mul-right (c .before .args .total) (c .cap-of .ensures .1)) }
+    record { fits = omega (arith, mul-le-mul-right (c .before .before .args .total .0) (c .before .cap-of .ensures .1)) }
 
 returns : tie.Need-returns
 returns c =
-    ap (λ (cap : ℕ). cap * c .before .args .total below 100 * c .before .args .core) (c .cap-of .ensures .0)
+    let p = c .before .before in
+    ap (λ (cap : ℕ). cap * p .before .args .total .0 below 100 * p .before .args .core .0) (p .cap-of .ensures .0)
 
 pub above-cap-spec : {M : Type 1} → statement M
 above-cap-spec = tie.close (tie.spec (λ c κs. search needs) mul-result (λ c. search needs) returns)

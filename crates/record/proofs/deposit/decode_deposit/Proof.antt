@@ -12,8 +12,10 @@ use Rattle.paper.specs.Behaviour.{coreCap, averageCap}
 use Rattle.paper.specs.TurnedDown.{coreAboveCap, coreTooLong}
 use Rattle.paper.specs.Fields.{categoryAt, amountAt, each}
 use Rattle.paper.specs.Decode.{decodeDeposit}
+use Rattle.paper.proofs.Checks.{known-of}
+use Rattle.paper.proofs.Ranges.{amount-known}
 use Rattle.fields.specs.Answers.{amountsFrom}
-use Rattle.fields.proofs.Reading.{value, bad, amounts-bad}
+use Rattle.fields.proofs.Reading.{value, bad, amount-value, amount-bad, amounts-bad}
 use Rattle.fields.proofs.AmountLaws.{Amounting, amounts-summed}
 use Rattle.record.specs.Answers.{depositRead}
 use Rattle.record.proofs.BodyLaws.{refusing-record, passing, rule, Left, begin, out, on, then}
@@ -31,9 +33,9 @@ at-total c = then (at-category (c .before .before .before .before)) _ (value (c 
 
 at-core : tie.After-known-told2 → Left (λ b. each (amountAt b) buckets 6)
 unfolding at-total
-at-core c = then (at-total (c .before .before .before .before)) _ (value (c .before .before .before .amount-at .ensures) (c .before .read2 .given .1)) refl
+at-core c = then (at-total (c .before .before .before .before)) _ (amount-value (c .before .before .before .amount-at .ensures) (c .before .read2 .given .1)) refl
 
-core : (c : tie.After-known-told3) → Amounting (at-core (c .before .before .before .before) .body) 6 (c .before .read3 .given .0 .0)
+core : (c : tie.After-known-told3) → Amounting (at-core (c .before .before .before .before) .body) 6 (c .before .read3 .given .0 .0 .0)
 unfolding at-core
 core c = amounts-summed _ 6 (c .before .before .before .amounts-at .ensures) (c .before .read3 .given .1)
 
@@ -42,7 +44,7 @@ abbrev category : tie.After-known-told3 → ℕ
 category c = c .before .before .before .before .before .before .before .before .before .read .given .0 .0
 
 abbrev total : tie.After-known-told3 → ℕ
-total c = c .before .before .before .before .before .read2 .given .0 .0
+total c = c .before .before .before .before .before .read2 .given .0 .0 .0
 
 at-cap : (c : tie.After-known-told3) → Left (λ b. refuseIf (coreAboveCap (category c) (total c) (amountsFrom b 6)) CoreAboveCap 0)
 unfolding at-core
@@ -72,11 +74,20 @@ returns c = out (at-category (c .before .before .before .before)) (bad (c .befor
 
 returns-2 : tie.Need-returns-2
 unfolding depositRead at-total
-returns-2 c = out (at-total (c .before .before .before .before)) (bad (c .before .before .before .amount-at .ensures) (c .before .enum-told2 .given .1) (c .fault2 .ensures))
+returns-2 c = out (at-total (c .before .before .before .before)) (amount-bad (c .before .before .before .amount-at .ensures) (c .before .enum-told2 .given .1) (c .fault2 .ensures))
 
 returns-3 : tie.Need-returns-3
 unfolding depositRead at-core
-returns-3 c = out (at-core (c .before .before .before .before)) (amounts-bad (c .before .before .before .amounts-at .ensures) (c .before .enum-told3 .given .1) (c .fault3 .ensures))
+returns-3 c =
+    out (at-core (c .before .before .before .before)) (amounts-bad (c .before .before .before .amounts-at .ensures) (c .before .enum-told3 .given .1) (c .fault3 .ensures))
+
+above-cap-requires : tie.Need-above-cap-requires
+unfolding at-total
+above-cap-requires c κs =
+    let p = c .before .before .before .before in
+    let body = at-total (p .before .before .before .before) .body in
+    let limit = known-of (amount-known body 2) (total c) (amount-value (p .before .before .before .amount-at .ensures) (p .before .read2 .given .1)) in
+    (limit .to, omega (arith, core c .small))
 
 returns-4 : tie.Need-returns-4
 unfolding depositRead at-cap
@@ -97,7 +108,7 @@ decode-deposit-spec =
     (λ c κs. search needs) (λ c. search needs) (λ c. search needs) (λ c κs. search needs) returns
     (λ c κs. search needs) (λ c. search needs) (λ c. search needs) (λ c κs. search needs) returns-2
     (λ c κs. search needs) (λ c. search needs) (λ c. search needs) (λ c κs. search needs) returns-3
-    (λ c κs. omega (arith, core c .small))
+    above-cap-requires
     (λ c κs. search needs) returns-4
     (λ c κs. search needs)
     (λ c κs. omega (arith, core (c .before .before .before) .small))

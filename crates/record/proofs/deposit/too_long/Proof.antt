@@ -10,11 +10,12 @@ use Rattle.record.proofs.deposit.too_long.Tie as tie
 
 mul-result : tie.Need-mul-result
 mul-result c =
-    record { fits = omega (arith, mul-le-mul-right (c .before .args .core) (c .cap-of .ensures .1)) }
+    record { fits = omega (arith, mul-le-mul-right (c .before .before .args .core .0) (c .before .cap-of .ensures .1)) }
 
 returns : tie.Need-returns
 returns c =
-    ap (λ (cap : ℕ). cap * c .before .args .core below c .before .args .weighed) (c .cap-of .ensures .0)
+    let p = c .before in
+    ap (λ (cap : ℕ). cap * p .before .args .core .0 below p .before .args .weighed) (p .cap-of .ensures .0)
 
 pub too-long-spec : {M : Type 1} → statement M
 too-long-spec = tie.close (tie.spec (λ c κs. search needs) mul-result returns)

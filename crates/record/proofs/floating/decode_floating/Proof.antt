@@ -4,7 +4,7 @@ use borrow.Author.Needs.{needs}
 use Rattle.paper.specs.Records.{currencies}
 use Rattle.paper.specs.Fields.{sideAt, monthsAt, daysAt, amountAt}
 use Rattle.paper.specs.Decode.{decodeFloating}
-use Rattle.fields.proofs.Reading.{value, bad}
+use Rattle.fields.proofs.Reading.{value, bad, amount-value, amount-bad}
 use Rattle.record.specs.Answers.{floatingRead}
 use Rattle.record.proofs.BodyLaws.{Left, begin, out, on, then}
 use Rattle.record.proofs.floating.decode_floating.Statement.{statement}
@@ -29,7 +29,7 @@ at-principal c = then (at-days (c .before .before .before .before)) _ (value (c 
 
 at-coupon : tie.After-known-told4 → Left (λ b. amountAt b 9)
 unfolding at-principal
-at-coupon c = then (at-principal (c .before .before .before .before)) _ (value (c .before .before .before .amount-at .ensures) (c .before .read4 .given .1)) refl
+at-coupon c = then (at-principal (c .before .before .before .before)) _ (amount-value (c .before .before .before .amount-at .ensures) (c .before .read4 .given .1)) refl
 
 returns : tie.Need-returns
 unfolding floatingRead at-side
@@ -45,15 +45,17 @@ returns-3 c = out (at-days (c .before .before .before .before)) (bad (c .before 
 
 returns-4 : tie.Need-returns-4
 unfolding floatingRead at-principal
-returns-4 c = out (at-principal (c .before .before .before .before)) (bad (c .before .before .before .amount-at .ensures) (c .before .enum-told4 .given .1) (c .fault4 .ensures))
+returns-4 c =
+    out (at-principal (c .before .before .before .before)) (amount-bad (c .before .before .before .amount-at .ensures) (c .before .enum-told4 .given .1) (c .fault4 .ensures))
 
 returns-5 : tie.Need-returns-5
 unfolding floatingRead at-coupon
-returns-5 c = out (at-coupon (c .before .before .before .before)) (bad (c .before .before .before .amount-at2 .ensures) (c .before .enum-told5 .given .1) (c .fault5 .ensures))
+returns-5 c =
+    out (at-coupon (c .before .before .before .before)) (amount-bad (c .before .before .before .amount-at2 .ensures) (c .before .enum-told5 .given .1) (c .fault5 .ensures))
 
 returns-6 : tie.Need-returns-6
 unfolding floatingRead at-coupon
-returns-6 c = sym (on (at-coupon (c .before .before .before .before)) (value (c .before .before .before .amount-at2 .ensures) (c .before .read5 .given .1)))
+returns-6 c = sym (on (at-coupon (c .before .before .before .before)) (amount-value (c .before .before .before .amount-at2 .ensures) (c .before .read5 .given .1)))
 
 pub decode-floating-spec : {M : Type 1} → statement M
 decode-floating-spec =

@@ -32,7 +32,7 @@ at-principals : tie.After-known-told → Left (λ b. each (amountAt b) buckets 3
 unfolding at-share
 at-principals c = then (at-share (c .before .before .before .before)) _ (value (c .before .before .before .share-at .ensures) (c .before .read .given .1)) refl
 
-principals : (c : tie.After-known-told2) → Amounting (at-principals (c .before .before .before .before) .body) 3 (c .before .read2 .given .0 .0)
+principals : (c : tie.After-known-told2) → Amounting (at-principals (c .before .before .before .before) .body) 3 (c .before .read2 .given .0 .0 .0)
 unfolding at-principals
 principals c = amounts-summed _ 3 (c .before .before .before .amounts-at .ensures) (c .before .read2 .given .1)
 
@@ -40,7 +40,7 @@ at-interests : tie.After-known-told2 → Left (λ b. each (amountAt b) buckets 7
 unfolding at-principals
 at-interests c = then (at-principals (c .before .before .before .before)) _ (principals c .list) refl
 
-interests : (c : tie.After-known-told3) → Amounting (at-interests (c .before .before .before .before) .body) 79 (c .before .read3 .given .0 .0)
+interests : (c : tie.After-known-told3) → Amounting (at-interests (c .before .before .before .before) .body) 79 (c .before .read3 .given .0 .0 .0)
 unfolding at-interests
 interests c = amounts-summed _ 79 (c .before .before .before .amounts-at2 .ensures) (c .before .read3 .given .1)
 
@@ -61,11 +61,13 @@ returns c = out (at-share (c .before .before .before .before)) (bad (c .before .
 
 returns-2 : tie.Need-returns-2
 unfolding loanRead at-principals
-returns-2 c = out (at-principals (c .before .before .before .before)) (amounts-bad (c .before .before .before .amounts-at .ensures) (c .before .enum-told2 .given .1) (c .fault2 .ensures))
+returns-2 c =
+    out (at-principals (c .before .before .before .before)) (amounts-bad (c .before .before .before .amounts-at .ensures) (c .before .enum-told2 .given .1) (c .fault2 .ensures))
 
 returns-3 : tie.Need-returns-3
 unfolding loanRead at-interests
-returns-3 c = out (at-interests (c .before .before .before .before)) (amounts-bad (c .before .before .before .amounts-at2 .ensures) (c .before .enum-told3 .given .1) (c .fault3 .ensures))
+returns-3 c =
+    out (at-interests (c .before .before .before .before)) (amounts-bad (c .before .before .before .amounts-at2 .ensures) (c .before .enum-told3 .given .1) (c .fault3 .ensures))
 
 interest-alone-requires : tie.Need-interest-alone-requires
 unfolding at-principals
@@ -77,24 +79,26 @@ returns-4 c = out (at-alone (c .before .before)) (refusing-at _ 79 (c .before .i
 
 add-if2 : tie.Need-add-if2
 add-if2 c =
-    let p = c .before .before in
+    let p = c .before .before .before .before in
     record { fits = omega (arith, principals (p .before .before .before .before) .small, interests p .small) }
 
 returns-5 : tie.Need-returns-5
 unfolding loanRead scheduleOver at-schedule
 returns-5 c =
-    let p = c .before .before .before .before in
-    let body = at-schedule (c .before .before) .body in
+    let e = c .before .before .before .before in
+    let p = e .before .before in
+    let body = at-schedule e .body in
     let over : billion < sumOf (amountsFrom body 3) + sumOf (amountsFrom body 79) = omega (arith, principals (p .before .before .before .before) .total, interests p .total) in
-    out (at-schedule (c .before .before)) (refusing-record _ (lt-ltb _ _ over) (c .record-fault .ensures))
+    out (at-schedule e) (refusing-record _ (lt-ltb _ _ over) (c .record-fault .ensures))
 
 returns-6 : tie.Need-returns-6
 unfolding loanRead scheduleOver at-schedule
 returns-6 c =
-    let p = c .before .before .before in
-    let body = at-schedule (c .before) .body in
+    let e = c .before .before .before in
+    let p = e .before .before in
+    let body = at-schedule e .body in
     let within : sumOf (amountsFrom body 3) + sumOf (amountsFrom body 79) ≤ billion = omega (arith, principals (p .before .before .before .before) .total, interests p .total) in
-    sym (on (at-schedule (c .before)) (passing _ _ (le-ltb _ _ within)))
+    sym (on (at-schedule e) (passing _ _ (le-ltb _ _ within)))
 
 pub decode-loan-spec : {M : Type 1} → statement M
 decode-loan-spec =

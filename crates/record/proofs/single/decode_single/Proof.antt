@@ -4,7 +4,7 @@ use borrow.Author.Needs.{needs}
 use Rattle.paper.specs.Records.{currencies}
 use Rattle.paper.specs.Fields.{sideAt, monthsAt, daysAt, amountAt}
 use Rattle.paper.specs.Decode.{decodeSingle}
-use Rattle.fields.proofs.Reading.{value, bad}
+use Rattle.fields.proofs.Reading.{value, bad, amount-value, amount-bad}
 use Rattle.record.specs.Answers.{singleRead}
 use Rattle.record.proofs.BodyLaws.{Left, begin, out, on, then}
 use Rattle.record.proofs.single.decode_single.Statement.{statement}
@@ -41,11 +41,12 @@ returns-3 c = out (at-days (c .before .before .before .before)) (bad (c .before 
 
 returns-4 : tie.Need-returns-4
 unfolding singleRead at-amount
-returns-4 c = out (at-amount (c .before .before .before .before)) (bad (c .before .before .before .amount-at .ensures) (c .before .enum-told4 .given .1) (c .fault4 .ensures))
+returns-4 c =
+    out (at-amount (c .before .before .before .before)) (amount-bad (c .before .before .before .amount-at .ensures) (c .before .enum-told4 .given .1) (c .fault4 .ensures))
 
 returns-5 : tie.Need-returns-5
 unfolding singleRead at-amount
-returns-5 c = sym (on (at-amount (c .before .before .before .before)) (value (c .before .before .before .amount-at .ensures) (c .before .read4 .given .1)))
+returns-5 c = sym (on (at-amount (c .before .before .before .before)) (amount-value (c .before .before .before .amount-at .ensures) (c .before .read4 .given .1)))
 
 pub decode-single-spec : {M : Type 1} → statement M
 decode-single-spec =

@@ -16,7 +16,7 @@ use Rattle.slotting.proofs.coupons.coupon_row.Tie as tie
 
 abbrev Inv-loop : tie.InvT-loop
 Inv-loop period count coupon principal row₀ ends before₀ k₀ row before k =
-    (k ≤ 19) × (length row ≡ 19) × Filled 0 k (couponsDue period count coupon) row × (before ≡ min count (start k / period))
+    (k ≤ 19) × (length row ≡ 19) × Filled 0 k (couponsDue period count (coupon .0)) row × (before ≡ min count (start k / period))
 
 abbrev μ-loop : tie.MeasureT-loop
 μ-loop period count coupon principal row₀ ends before₀ k₀ row before k = 19 - k
@@ -52,9 +52,10 @@ cast-row c = search needs
 
 mul-row : tie.Need-mul-row Inv-loop μ-loop
 mul-row c =
-    let s = c .before .before .before .before in
-    let few : c .due-by .result - c .before .before .loop .before ≤ 600 =
-    omega (arith, c .due-by .ensures, few-coupons s) in
+    let p = c .before in
+    let s = p .before .before .before .before in
+    let few : p .due-by .result - p .before .before .loop .before ≤ 600 =
+    omega (arith, p .due-by .ensures, few-coupons s) in
     record { fits = omega (arith, mul-le-mul few (s .pre .2)) }
 
 mul-row-2 : tie.Need-mul-row-2 Inv-loop μ-loop
@@ -72,11 +73,12 @@ loop-less c = search needs
 loop-again : tie.Need-loop-again Inv-loop μ-loop
 unfolding monthEnds
 loop-again c =
-    let s = c .before .before .before .before in
-    let at = c .before .before .loop in
-    let now : c .due-by .result ≡ min (s .args .count) (start (suc (at .k)) / s .args .period) = c .due-by .ensures in
-    let here = ap₂ (λ (x y : ℕ). (x - y) * s .args .coupon) now (at .inv .3)
-    ∙ sym (coupons-in (s .args .period) (s .args .count) (s .args .coupon) (at .k) (s .pre .0) (s .pre .1) (omega arith)) in (
+    let p = c .before in
+    let s = p .before .before .before .before in
+    let at = p .before .before .loop in
+    let now : p .due-by .result ≡ min (s .args .count) (start (suc (at .k)) / s .args .period) = p .due-by .ensures in
+    let here = ap₂ (λ (x y : ℕ). (x - y) * s .args .coupon .0) now (at .inv .3)
+    ∙ sym (coupons-in (s .args .period) (s .args .count) (s .args .coupon .0) (at .k) (s .pre .0) (s .pre .1) (omega arith)) in (
       omega arith,
       search needs,
       filled-next 0 _ (at .row) (at .k) _ (at .inv .2) here (search needs),
@@ -100,25 +102,29 @@ slice-read-row c = search needs
 
 add-row : tie.Need-add-row Inv-loop μ-loop
 add-row c =
-    let s = c .before .before .before .before .before in
-    let last = c .before .bucket-of .result - 1 in
-    let here = c .before .before .before .loop .inv .2 last (omega arith) in
-    let small = coupons-small (s .args .period) (s .args .count) (s .args .coupon) last (omega arith) in
-    record { fits = omega (arith, here, small, mul-le-mul (few-coupons s) (s .pre .2), s .fits .principal) }
+    let p = c .before .before in
+    let s = p .before .before .before .before in
+    let last = p .bucket-of .result - 1 in
+    let here = p .before .before .loop .inv .2 last (omega arith) in
+    let small = coupons-small (s .args .period) (s .args .count) (s .args .coupon .0) last (omega arith) in
+    record { fits = omega (arith, here, small, mul-le-mul (few-coupons s) (s .pre .2), s .pre .3) }
 
 slice-write-row-2 : tie.Need-slice-write-row-2 Inv-loop μ-loop
 slice-write-row-2 c = search needs
 
 same-length : tie.Need-same-length Inv-loop μ-loop
 same-length c =
-    length-set (c .before .before .before .loop .row) (c .before .bucket-of .result - 1) _ ∙ c .before .before .before .loop .inv .1 ∙ sym (c .before .before .before .before .before .pre .3)
+    let p = c .before .before in
+    let at = p .before .before .loop in
+    length-set (at .row) (p .bucket-of .result - 1) _ ∙ at .inv .1 ∙ sym (p .before .before .before .before .pre .4)
 
 returns : tie.Need-returns Inv-loop μ-loop
 returns c =
-    let s = c .before .before .before .before .before in
-    let at = c .before .before .before .loop in
-    let filled = tabulate-is 0 (at .row) (couponsDue (s .args .period) (s .args .count) (s .args .coupon)) buckets (at .inv .1) (λ k l. at .inv .2 k (omega arith)) in
-    principal-row _ (at .row) _ (c .before .bucket-of .result) (s .args .principal) filled (c .before .bucket-of .ensures .0)
+    let p = c .before .before in
+    let s = p .before .before .before .before in
+    let at = p .before .before .loop in
+    let filled = tabulate-is 0 (at .row) (couponsDue (s .args .period) (s .args .count) (s .args .coupon .0)) buckets (at .inv .1) (λ k l. at .inv .2 k (omega arith)) in
+    principal-row _ (at .row) _ (p .bucket-of .result) (s .args .principal .0) filled (p .bucket-of .ensures .0)
 
 pub coupon-row-spec : {M : Type 1} → statement M
 coupon-row-spec =

@@ -47,22 +47,13 @@ enum-known-fault c = search needs
 enum-known-bond : tie.Need-enum-known-bond
 enum-known-bond c = search needs
 
-small : (w : tie.After-known-told2) → fields w .count * fields w .coupon + fields w .principal ≤ trillion
+small : (w : tie.After-known-told2) → fields w .count * fields w .coupon .0 + fields w .principal .0 ≤ trillion
 small w = size-small _ (fields w .period) _ _ _ (sound w)
 
-cast-size : tie.Need-cast-size
-cast-size c = search needs
-
-cast-size-2 : tie.Need-cast-size-2
-cast-size-2 c = search needs
-
-mul-size : tie.Need-mul-size
+mul-size : tie.Need-mul-t12
 mul-size c = record { fits = omega (arith, small (c .before .before)) }
 
-cast-size-3 : tie.Need-cast-size-3
-cast-size-3 c = search needs
-
-add-size : tie.Need-add-size
+add-size : tie.Need-add-t13
 add-size c = record { fits = omega (arith, small (c .before .before .before)) }
 
 slice-aggregate-coupon-row : tie.Need-slice-aggregate-coupon-row
@@ -70,7 +61,7 @@ slice-aggregate-coupon-row c = search needs
 
 coupon-row-requires : tie.Need-coupon-row-requires
 unfolding SoundFlows
-coupon-row-requires c κs = let p = sound (c .before .before .before .before) in (period-range _ (p .1) .from, p .2 .last, p .3 .to, refl)
+coupon-row-requires c κs = let p = sound (c .before .before .before .before) in (period-range _ (p .1) .from, p .2 .last, p .3 .to, p .4 .to, refl)
 
 slice-aggregate-enter-row : tie.Need-slice-aggregate-enter-row
 slice-aggregate-enter-row c = search needs
@@ -81,9 +72,9 @@ enter-row-requires c κs =
     let b = fields w in
     let filled = c .before .before .before .before .coupon-row .ensures in (
       (
-        row-long (scheduled (b .period) (b .count) (b .coupon) (b .principal)) buckets filled,
-        row-small (scheduled (b .period) (b .count) (b .coupon) (b .principal)) buckets trillion filled
-            (λ k l. omega (arith, scheduled-small (b .period) (b .count) (b .coupon) (b .principal) k l, small w)),
+        row-long (scheduled (b .period) (b .count) (b .coupon .0) (b .principal .0)) buckets filled,
+        row-small (scheduled (b .period) (b .count) (b .coupon .0) (b .principal .0)) buckets trillion filled
+            (λ k l. omega (arith, scheduled-small (b .period) (b .count) (b .coupon .0) (b .principal .0) k l, small w)),
         small w,
       ),
       w .before .before .before .before .before .before .pre .1,
@@ -103,9 +94,10 @@ returns-2 : tie.Need-returns-2
 returns-2 c =
     let w = c .before .before .before .before .before .before .before .before .before .before .before .before .before in
     let b = fields w in
-    row-taken _ (read w) (b .side) (w .before .before .before .before .before .before .pre .1) (scheduled (b .period) (b .count) (b .coupon) (b .principal)) _ (c .before .before .before .before .before .before .before .before .coupon-row .ensures)
-    (scheduled-flow (b .period) (b .count) (b .coupon) (b .currency) (b .side) (b .principal))
-    (λ i. size-coupons (b .currency) i (b .side) (b .period) (b .count) (b .coupon) (b .principal)) (c .before .before .before .enter-row .ensures)
+    row-taken _ (read w) (b .side) (w .before .before .before .before .before .before .pre .1)
+    (scheduled (b .period) (b .count) (b .coupon .0) (b .principal .0)) _ (c .before .before .before .before .before .before .before .before .coupon-row .ensures)
+    (scheduled-flow (b .period) (b .count) (b .coupon .0) (b .currency) (b .side) (b .principal .0))
+    (λ i. size-coupons (b .currency) i (b .side) (b .period) (b .count) (b .coupon .0) (b .principal .0)) (c .before .before .before .enter-row .ensures)
 
 pub take-coupons-spec : {M : Type 1} → statement M
 take-coupons-spec =
@@ -114,10 +106,8 @@ take-coupons-spec =
     decode-coupons-requires
     enum-known-fault
     enum-known-bond
-    cast-size
-    cast-size-2
+    (λ c. search needs)
     mul-size
-    cast-size-3
     add-size
     slice-aggregate-coupon-row
     coupon-row-requires

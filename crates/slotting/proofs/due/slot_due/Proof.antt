@@ -19,7 +19,7 @@ slice-aggregate-admits c = search needs
 admits-requires : tie.Need-admits-requires
 admits-requires c κs =
     let s = c .before .before .before in
-    (sym (s .pre .1 .sizes-long), (s .pre .1 .sizes-small, replicate-all 0 (λ n. n ≤ trillion) 7 (s .args .amount) (search needs) (search needs)))
+    (sym (s .pre .1 .sizes-long), (s .pre .1 .sizes-small, replicate-all 0 (λ n. n ≤ trillion) 7 (s .args .amount .0) (search needs) (search needs)))
 
 bucket-of-requires : tie.Need-bucket-of-requires
 bucket-of-requires c κs = search needs
@@ -31,7 +31,7 @@ post-requires : tie.Need-post-requires
 post-requires c κs =
     let s = c .before .before .before .before .before .before .before .before .before .before in (
       (s .pre .1 .cells-long, search needs, search needs),
-      ((λ j. omega (arith, s .pre .1 .cells-small j)), rw (c .sided-amount .ensures, abs-sided (s .args .side) (pos (s .args .amount))) (search needs)),
+      ((λ j. omega (arith, s .pre .1 .cells-small j)), rw (c .sided-amount .ensures, abs-sided (s .args .side) (pos (s .args .amount .0))) (search needs)),
     )
 
 same-length : tie.Need-same-length
@@ -46,8 +46,9 @@ returns c =
     let posted =
     c .before .post .ensures
     ∙ ap₂ (λ (b : ℕ) (z : ℤ). plusℤ (s .args .section .now) (column b z)) (c .before .before .before .bucket-of .ensures .0) (c .before .before .sided-amount .ensures) in
-    entered _ (s .args .side) _ true (s .pre .1 .sizes-long) (same-size (s .args .amount)) (c .before .before .before .before .before .before .before .before .admits .ensures) (c .before .before .before .before .before .if1 .taken)
-    (posted ∙ due-column (s .args .side) _ (s .args .amount) _)
+    entered _ (s .args .side) _ true (s .pre .1 .sizes-long) (same-size (s .args .amount .0))
+    (c .before .before .before .before .before .before .before .before .admits .ensures) (c .before .before .before .before .before .if1 .taken)
+    (posted ∙ due-column (s .args .side) _ (s .args .amount .0) _)
 
 over-limit-requires : tie.Need-over-limit-requires
 over-limit-requires c κs = search needs
@@ -59,7 +60,7 @@ returns-2 : tie.Need-returns-2
 returns-2 c =
     let s = c .before .before .before .before .before .before .before .before in
     rw (c .over-limit .ensures)
-    (entered _ (s .args .side) _ false (s .pre .1 .sizes-long) (same-size (s .args .amount)) (c .before .before .before .before .admits .ensures) (c .before .if1 .left) refl)
+    (entered _ (s .args .side) _ false (s .pre .1 .sizes-long) (same-size (s .args .amount .0)) (c .before .before .before .before .admits .ensures) (c .before .if1 .left) refl)
 
 pub slot-due-spec : {M : Type 1} → statement M
 slot-due-spec =

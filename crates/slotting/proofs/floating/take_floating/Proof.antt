@@ -41,19 +41,13 @@ enum-known-fault c = search needs
 enum-known-position : tie.Need-enum-known-position
 enum-known-position c = search needs
 
-cast-slot-due : tie.Need-cast-slot-due
-cast-slot-due c = search needs
-
-cast-slot-due-2 : tie.Need-cast-slot-due-2
-cast-slot-due-2 c = search needs
-
-add-slot-due : tie.Need-add-slot-due
+add-slot-due : tie.Need-add-t9
 unfolding SoundFlows
-add-slot-due c = let w = c .before .before in record { fits = omega (arith, sound w .2 .to, sound w .3 .to) }
+add-slot-due c = let w = c .before in record { fits = omega (arith, sound w .2 .to, sound w .3 .to) }
 
 slot-due-requires : tie.Need-slot-due-requires
 unfolding SoundFlows
-slot-due-requires c κs = let w = c .before .before .before .before in (omega (arith, sound w .2 .to, sound w .3 .to), w .before .before .before .before .before .before .pre .1)
+slot-due-requires c κs = let w = c .before .before .before in (omega (arith, sound w .2 .to, sound w .3 .to), w .before .before .before .before .before .before .pre .1)
 
 returns : tie.Need-returns
 unfolding floatingRead
@@ -68,8 +62,9 @@ same-length-2 c = search needs
 returns-2 : tie.Need-returns-2
 unfolding flowOf
 returns-2 c =
-    let w = c .before .before .before .before .before .before .before .before in
-    due-taken (fields w .currency) (floatingOf (fields w)) (fields w .side) _ (fields w .principal + fields w .coupon) (λ i k. refl) (w .before .before .before .before .before .before .pre .1) (read w) (c .before .before .before .slot-due .ensures)
+    let w = c .before .before .before .before .before .before .before in
+    due-taken (fields w .currency) (floatingOf (fields w)) (fields w .side) _ (fields w .principal .0 + fields w .coupon .0) (λ i k. refl)
+    (w .before .before .before .before .before .before .pre .1) (read w) (c .before .before .before .slot-due .ensures)
 
 pub take-floating-spec : {M : Type 1} → statement M
 take-floating-spec =
@@ -78,8 +73,6 @@ take-floating-spec =
     decode-floating-requires
     enum-known-fault
     enum-known-position
-    cast-slot-due
-    cast-slot-due-2
     add-slot-due
     slot-due-requires
     returns

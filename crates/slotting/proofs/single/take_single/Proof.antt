@@ -41,12 +41,9 @@ enum-known-fault c = search needs
 enum-known-flow : tie.Need-enum-known-flow
 enum-known-flow c = search needs
 
-cast-slot-due : tie.Need-cast-slot-due
-cast-slot-due c = search needs
-
 slot-due-requires : tie.Need-slot-due-requires
 unfolding SoundFlows
-slot-due-requires c κs = let w = c .before .before .before in (omega (arith, sound w .2 .to), w .before .before .before .before .before .before .pre .1)
+slot-due-requires c κs = let w = c .before .before in (omega (arith, sound w .2 .to), w .before .before .before .before .before .before .pre .1)
 
 returns : tie.Need-returns
 unfolding singleRead
@@ -61,8 +58,9 @@ same-length-2 c = search needs
 returns-2 : tie.Need-returns-2
 unfolding flowOf
 returns-2 c =
-    let w = c .before .before .before .before .before .before .before in
-    due-taken (fields w .currency) (singleOf (fields w)) (fields w .side) _ (fields w .amount) (λ i k. refl) (w .before .before .before .before .before .before .pre .1) (read w) (c .before .before .before .slot-due .ensures)
+    let w = c .before .before .before .before .before .before in
+    due-taken (fields w .currency) (singleOf (fields w)) (fields w .side) _ (fields w .amount .0) (λ i k. refl)
+    (w .before .before .before .before .before .before .pre .1) (read w) (c .before .before .before .slot-due .ensures)
 
 pub take-single-spec : {M : Type 1} → statement M
 take-single-spec =
@@ -71,7 +69,6 @@ take-single-spec =
     decode-single-requires
     enum-known-fault
     enum-known-flow
-    cast-slot-due
     slot-due-requires
     returns
     same-length

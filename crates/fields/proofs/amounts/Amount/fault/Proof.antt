@@ -1,7 +1,7 @@
--- `SignedField::fault` meets its contract, variant by variant.
+-- `Amount::fault` meets its contract, variant by variant.
 use borrow.Author.Needs.{needs}
-use Rattle.fields.proofs.SignedField.fault.Statement.{statement}
-use Rattle.fields.proofs.SignedField.fault.Tie as tie
+use Rattle.fields.proofs.amounts.Amount.fault.Statement.{statement}
+use Rattle.fields.proofs.amounts.Amount.fault.Tie as tie
 
 returns-2 : tie.Need-returns-2
 returns-2 c = rw (c .enum-told .given .1)
