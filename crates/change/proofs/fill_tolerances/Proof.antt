@@ -84,9 +84,9 @@ loop-less c = search needs
 
 loop-again : tie.Need-loop-again Inv-loop μ-loop
 loop-again c =
-    let t = c .before in
-    let at = head t .loop in
-    let is = toZ-pos w64 {n = t .tolerance-of .result .0} (fits t .sfits) ∙ ap pos (tolerance-is t) in
+    let turn = c .before in
+    let at = head turn .loop in
+    let is = toZ-pos w64 {n = turn .tolerance-of .result .0} (fits turn .sfits) ∙ ap pos (tolerance-is turn) in
     (search needs, search needs, filled-next (pos 0) _ (at .tolerances) (at .i) _ (at .inv .2) is (search needs))
 
 same-length : tie.Need-same-length Inv-loop μ-loop
