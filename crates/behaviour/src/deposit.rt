@@ -27,13 +27,12 @@ fn core_row(body: &[u8], total: Thousands, row: &mut [u64])
     requires { ⌜ AtMost billion (amountsFrom (now body) 6) × (sumOf (amountsFrom (now body) 6) ≤ total .0) ⌝ }
     ensures { λ _. ⌜ now (row .exit) ≡ tabulate (depositFlow (total .0) (amountsFrom (now (body .entry)) 6)) buckets ⌝ }
 {
-    let rest = Thousands(total.0 - sum_from(body, 6).0);
     let mut k: usize = 0;
     while k < BUCKETS {
         row[k] = amount_of(body, 6, k).0;
         k += 1;
     }
-    row[0] += rest.0;
+    row[0] += total.0 - sum_from(body, 6).0;
 }
 
 pub fn take_deposit(currency: u32, body: &[u8], section: &mut [i64], sizes: &mut [u64]) -> Taken

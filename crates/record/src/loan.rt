@@ -32,13 +32,14 @@ pub enum DecodedLoan {
     Refused(Fault),
 }
 
+// What is scheduled comes first: as a rule something is, and the interest need not be looked at.
 fn alone(interest: Thousands, scheduled: Thousands) -> bool
     ensures { λ r. ⌜ r ≡ (0 below interest .0 && scheduled .0 is 0) ⌝ }
 {
-    if interest.0 < 1 {
+    if 0 < scheduled.0 {
         return false;
     }
-    scheduled.0 == 0
+    0 < interest.0
 }
 
 // 11: the first bucket, counted from 0, with interest and no scheduled principal in it or after; 19 where there is none.

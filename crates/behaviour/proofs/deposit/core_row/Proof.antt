@@ -11,22 +11,16 @@ use Rattle.behaviour.proofs.deposit.core_row.Statement.{statement}
 use Rattle.behaviour.proofs.deposit.core_row.Tie as tie
 
 abbrev Inv-loop : tie.InvT-loop
-Inv-loop body row₀ rest k₀ row k = (k ≤ 19) × (length row ≡ 19) × Filled 0 k (λ j. getD (amountsFrom body 6) j 0) row
+Inv-loop body total row₀ k₀ row k = (k ≤ 19) × (length row ≡ 19) × Filled 0 k (λ j. getD (amountsFrom body 6) j 0) row
 
 abbrev μ-loop : tie.MeasureT-loop
-μ-loop body row₀ rest k₀ row k = 19 - k
-
-sum-from-requires : tie.Need-sum-from-requires Inv-loop μ-loop
-sum-from-requires c κs = (search needs, c .before .before .pre .1 .0)
-
-sub-rest : tie.Need-sub-row Inv-loop μ-loop
-sub-rest c = let p = c .before .before in omega (arith, p .sum-from .ensures .0, p .before .before .before .pre .1 .1)
+μ-loop body total row₀ k₀ row k = 19 - k
 
 loop-holds : tie.Need-loop-holds Inv-loop μ-loop
-loop-holds c = (search needs, search needs, filled-none 0 _ (c .before .before .before .before .before .args .row .now))
+loop-holds c = (search needs, search needs, filled-none 0 _ (c .before .before .args .row .now))
 
 amount-of-requires : tie.Need-amount-of-requires Inv-loop μ-loop
-amount-of-requires c κs = ((search needs, search needs), c .before .before .before .before .before .before .before .pre .1 .0)
+amount-of-requires c κs = ((search needs, search needs), c .before .before .before .before .pre .1 .0)
 
 mul-row : tie.Need-mul-row Inv-loop μ-loop
 mul-row c = search needs
@@ -45,13 +39,19 @@ loop-again c =
     let at = c .before .before .loop in
     (search needs, search needs, filled-next 0 _ (at .row) (at .k) _ (at .inv .2) (c .amount-of .ensures .0) (search needs))
 
+sum-from-requires : tie.Need-sum-from-requires Inv-loop μ-loop
+sum-from-requires c κs = (search needs, c .before .before .before .before .pre .1 .0)
+
+sub-row : tie.Need-sub-row Inv-loop μ-loop
+sub-row c = let p = c .before .before in omega (arith, p .sum-from .ensures .0, p .before .before .before .before .before .pre .1 .1)
+
 slice-read-row : tie.Need-slice-read-row Inv-loop μ-loop
 slice-read-row c = search needs
 
 add-row : tie.Need-add-row Inv-loop μ-loop
 add-row c =
-    let p = c .before .before .before in
-    let s = p .before .before .before .before .before .before in
+    let p = c .before .before .before .before .before in
+    let s = p .before .before .before in
     record { fits = omega (arith, p .loop .inv .2 0 (omega arith), s .pre .1 .0 0, s .pre .0 .1) }
 
 slice-write-row-2 : tie.Need-slice-write-row-2 Inv-loop μ-loop
@@ -59,17 +59,18 @@ slice-write-row-2 c = search needs
 
 same-length : tie.Need-same-length Inv-loop μ-loop
 same-length c =
-    let p = c .before .before .before in
-    length-set (p .loop .row) 0 _ ∙ p .loop .inv .1 ∙ sym (p .before .before .before .before .before .before .pre .0 .2)
+    let p = c .before .before .before .before .before in
+    length-set (p .loop .row) 0 _ ∙ p .loop .inv .1 ∙ sym (p .before .before .before .pre .0 .2)
 
 returns : tie.Need-returns Inv-loop μ-loop
 returns c =
-    let p = c .before .before .before in
-    let s = p .before .before .before .before .before .before in
+    let summed = c .before .before .before in
+    let p = summed .before .before in
+    let s = p .before .before .before in
     let at = p .loop in
     let last : at .k ≡ 19 = omega arith in
     core-row (s .args .total .0) (amountsFrom (s .args .body .now) 6) (at .row) _ (at .inv .1) (rw last at (at .inv .2))
-    (ap (λ n. s .args .total .0 - n) (p .before .before .before .sum-from .ensures .0))
+    (ap (λ n. s .args .total .0 - n) (summed .sum-from .ensures .0))
 
 pub core-row-spec : {M : Type 1} → statement M
 core-row-spec =
@@ -77,8 +78,6 @@ core-row-spec =
     (tie.spec
     Inv-loop
     μ-loop
-    sum-from-requires
-    sub-rest
     loop-holds
     amount-of-requires
     mul-row
@@ -86,6 +85,8 @@ core-row-spec =
     add-k
     loop-less
     loop-again
+    sum-from-requires
+    sub-row
     slice-read-row
     add-row
     slice-write-row-2
