@@ -25,6 +25,7 @@ use Rattle.load.specs.declared.turn.Step.{Step}
 use Rattle.load.specs.declared.turn.Step.the-variants.{Refused}
 use Rattle.posting.specs.Answers.{into}
 use Rattle.load.specs.Step.{onTo, stepped, Stepped}
+use Rattle.load.specs.Walk.{orElse, keptFrom, keptIn}
 
 -- the walk is at a place with the records kept in its arrays; the fuel is more than the bytes left
 pub record Walking (book : List ℕ) (a : Arrays) (at : ℕ) (m : Masks) : Type 0 where
@@ -32,13 +33,14 @@ pub record Walking (book : List ℕ) (a : Arrays) (at : ℕ) (m : Masks) : Type 
   pub fuel : ℕ
   pub more : length book - at ≤ fuel
   pub same : walkFrom currencies fuel book at kept ≡ walk currencies book
+  pub ends-with : keptFrom fuel book at kept ≡ keptIn book
   pub arrays : a ≡ arraysOf kept
   pub masks : MasksOf m kept
   pub good : Good kept
 
 pub begun : (book : List ℕ) (a : Arrays) → a ≡ arraysOf [] → Walking book a 0 (record { used = 0; curved = 0 })
-unfolding walk
-begun book a e = record { kept = []; fuel = length book; more = omega arith; same = refl; arrays = e; masks = masks-none; good = good-none }
+unfolding walk keptIn
+begun book a e = record { kept = []; fuel = length book; more = omega arith; same = refl; ends-with = refl; arrays = e; masks = masks-none; good = good-none }
 
 -- ---- a turn of the paper's walk
 
@@ -52,6 +54,17 @@ over : (fuel : ℕ) (book : List ℕ) (at : ℕ) (kept : List Record) → length
 unfolding walkFrom
 over zero book at kept l = refl
 over (suc fuel) book at kept l = rw (le-leb (length book) at l)
+
+turn-kept : (fuel : ℕ) (book : List ℕ) (at : ℕ) (kept : List Record) → 0 < fuel → at < length book
+    → keptFrom fuel book at kept ≡ orElse kept (recordAt currencies (soFar kept) book at) (λ r. keptFrom (pred fuel) book (nextAt book at) (kept ++ (r ∷ [])))
+unfolding keptFrom
+turn-kept zero book at kept f l = absurd (omega arith)
+turn-kept (suc fuel) book at kept f l = rw (lt-leb (length book) at l)
+
+over-kept : (fuel : ℕ) (book : List ℕ) (at : ℕ) (kept : List Record) → length book ≤ at → keptFrom fuel book at kept ≡ kept
+unfolding keptFrom
+over-kept zero book at kept l = refl
+over-kept (suc fuel) book at kept l = rw (le-leb (length book) at l)
 
 -- what an answer says of what was read
 pub on-read : (x : Checked Record) (next next' : ℕ) (m m' : Masks) → onTo next' m' ≡ stepped x next m → (r : Record) × (x ≡ accepted r) × (next' ≡ next) × (m' ≡ marked r m)
@@ -85,8 +98,13 @@ module _ (book : List ℕ) (a : Arrays) (at : ℕ) (m : Masks) (w : Walking book
   here : recordAt currencies before book at ≡ recordAt currencies (soFar (w .kept)) book at
   here = record-agrees before (soFar (w .kept)) agrees book at
 
-  pub ended : length book ≤ at → walk currencies book ≡ accepted (w .kept)
-  ended l = sym (w .same) ∙ over (w .fuel) book at (w .kept) l
+  -- at the end of the book
+  module _ (l : length book ≤ at) where
+    pub all-of-them : keptIn book ≡ w .kept
+    all-of-them = sym (w .ends-with) ∙ over-kept (w .fuel) book at (w .kept) l
+
+    pub ended : walk currencies book ≡ accepted (keptIn book)
+    ended = sym (w .same) ∙ over (w .fuel) book at (w .kept) l ∙ ap accepted (sym all-of-them)
 
   module _ (l : at < length book) (answer : Step) (a' : Arrays) (s : Stepped (recordAt currencies before book at) (nextAt book at) m a answer a') where
     -- the rest of the paper's walk, by what was read
@@ -97,9 +115,22 @@ module _ (book : List ℕ) (a : Arrays) (at : ℕ) (m : Masks) (w : Walking book
         ∙ sym (turn (w .fuel) book at (w .kept) (omega (arith, w .more)) l)
         ∙ w .same
 
+    goes-kept : (x : Checked Record) → recordAt currencies before book at ≡ x
+        → orElse (w .kept) x (λ r. keptFrom (pred (w .fuel)) book (nextAt book at) (w .kept ++ (r ∷ []))) ≡ keptIn book
+    goes-kept x e =
+        ap (λ (y : Checked Record). orElse (w .kept) y (λ r. keptFrom (pred (w .fuel)) book (nextAt book at) (w .kept ++ (r ∷ [])))) (sym e ∙ here)
+        ∙ sym (turn-kept (w .fuel) book at (w .kept) (omega (arith, w .more)) l)
+        ∙ w .ends-with
+
     pub stops : (f : Fault) → answer ≡ Refused f → walk currencies book ≡ refused (f .cause) (f .place)
     unfolding _>>=_
     stops f e = sym (goes (refused (f .cause) (f .place)) (refused-read (recordAt currencies before book at) (nextAt book at) m f (sym e ∙ s .answered)))
+
+    -- a refused record leaves the arrays as they were
+    pub stops-with : (f : Fault) → answer ≡ Refused f → a' ≡ arraysOf (keptIn book)
+    stops-with f e =
+        let read = refused-read (recordAt currencies before book at) (nextAt book at) m f (sym e ∙ s .answered) in
+        s .arrays ∙ ap (λ (y : Checked Record). into withRecord y a) read ∙ w .arrays ∙ ap arraysOf (goes-kept (refused (f .cause) (f .place)) read)
 
     takes : (r : Record) (next : ℕ) (m' : Masks) → recordAt currencies before book at ≡ accepted r → next ≡ nextAt book at → m' ≡ marked r m
         → Walking book a' next m'
@@ -112,6 +143,7 @@ module _ (book : List ℕ) (a : Arrays) (at : ℕ) (m : Masks) (w : Walking book
           fuel = pred (w .fuel);
           more = omega (arith, sub-one (w .fuel), w .more, forward);
           same = ap (λ (n : ℕ). walkFrom currencies (pred (w .fuel)) book n (w .kept ++ (r ∷ []))) forward ∙ goes (accepted r) read;
+          ends-with = ap (λ (n : ℕ). keptFrom (pred (w .fuel)) book n (w .kept ++ (r ∷ []))) forward ∙ goes-kept (accepted r) read;
           arrays = s .arrays ∙ ap (λ (y : Checked Record). into withRecord y a) read ∙ ap (withRecord r) (w .arrays) ∙ sym (arrays-more (w .kept) r (c .from) (c .to));
           masks = rw marks (masks-more m (w .kept) r (c .from) (c .to) (w .masks));
           good = good-more r (w .good) p;

@@ -12,13 +12,13 @@ use Rattle.paper.specs.Records.{Record, currencies}
 use Rattle.paper.specs.Book.{recordAt, nextAt}
 use Rattle.arrays.specs.declared.masks.Masks.{Masks}
 use Rattle.arrays.specs.Rooms.{soFarBy}
-use Rattle.arrays.specs.Arrays.{Arrays}
+use Rattle.arrays.specs.Arrays.{Arrays, arraysOf}
 use Rattle.load.specs.declared.turn.Step.{Step}
 use Rattle.load.specs.declared.turn.Step.the-variants as step
 use Rattle.load.specs.declared.walk.Walked.the-variants as walked
 use Rattle.load.specs.Step.{onTo, Stepped, Turned}
 use Rattle.load.specs.Walk.{AllKept, Walks}
-use Rattle.load.proofs.Invariant.{Walking, on-read, ended, stops, goes-on}
+use Rattle.load.proofs.Invariant.{Walking, on-read, all-of-them, ended, stops, stops-with, goes-on}
 use Rattle.load.proofs.TurnLaws.{is-over, is-step}
 
 all-once : (m n : Masks) → walked.All m ≡ walked.All n → m ≡ n
@@ -31,8 +31,8 @@ all-refused : {B : Type 0} (m : Masks) (f : Fault) → walked.All m ≡ walked.R
 all-refused m f e = let z : _≡_ {A = ℕ} 0 1 = cc in absurd (omega arith)
 
 module _ (book : List ℕ) (a : Arrays) (at : ℕ) (m : Masks) (w : Walking book a at m) where
-  all-kept : length book ≤ at → AllKept book m a
-  all-kept l = record { kept = w .kept; walked = ended book a at m w l; arrays = w .arrays; used-is = w .masks .used-is; curved-is = w .masks .curved-is }
+  all-kept : length book ≤ at → AllKept book m
+  all-kept l = let all = all-of-them book a at m w l in record { walked = ended book a at m w l; used-is = rw all (w .masks .used-is); curved-is = rw all (w .masks .curved-is) }
 
   -- a turn at this place, its answer and what it leaves
   module _ (answer : Step) (a' : Arrays) (t : Turned (length book upTo at) (recordAt currencies (soFarBy (m .curved) (a .sizes) (a .optionSizes)) book at) (nextAt book at) m a answer a') where
@@ -42,9 +42,10 @@ module _ (book : List ℕ) (a : Arrays) (at : ℕ) (m : Masks) (w : Walking book
     pub walks-ended : answer ≡ step.End → Walks book (walked.All m) a'
     walks-ended e =
         let over = is-over read (nextAt book at) m a answer a' (length book upTo at) t e in
-        let kept : AllKept book m a' = subst (AllKept book m) (sym (over .1)) (all-kept (leb-true (length book) at (over .0))) in
+        let end = leb-true (length book) at (over .0) in
         record {
-          all = λ n f. subst (λ (k : Masks). AllKept book k a') (all-once m n f) kept;
+          arrays = over .1 ∙ w .arrays ∙ ap arraysOf (sym (all-of-them book a at m w end));
+          all = λ n f. subst (AllKept book) (all-once m n f) (all-kept end);
           stopped = λ q f. all-refused m q f;
         }
 
@@ -62,6 +63,7 @@ module _ (book : List ℕ) (a : Arrays) (at : ℕ) (m : Masks) (w : Walking book
     walks-stopped f e =
         let s = within (not-end f e) in
         record {
+          arrays = stops-with book a at m w (s .0) answer a' (s .1) f e;
           all = λ n u. all-refused n f (sym u);
           stopped = λ g u. stops book a at m w (s .0) answer a' (s .1) f e ∙ ap (λ (h : Fault). refused (h .cause) (h .place)) (refused-once f g u);
         }
