@@ -4,6 +4,10 @@ pub mod Lending
 pub mod TurnLaws
 pub mod Invariant
 pub mod WalkLaws
+-- the walk by hand: slices lent again for a call, and a function's locals
+pub mod Loans
+pub mod Locals
+pub mod Asking
 -- 15
 pub mod LoadLaws
 -- any two outcomes are one

@@ -46,11 +46,14 @@ fault-requires c κs = search needs
 placed-requires : tie.Need-placed-requires
 placed-requires c κs = search needs
 
+stopped-requires : tie.Need-stopped-requires
+stopped-requires c κs = search needs
+
 returns : tie.Need-returns
 returns c =
-    let s = c .before .before .before .before .before .before .before .before in
-    rw (c .placed .ensures)
-    (stepped-bad _ (s .args .kind) (s .args .at) _ 0 _ _ _ (s .pre .0 .1) _ (bad (c .before .before .before .before .currency-at .ensures) (c .before .before .enum-told .given .1) (c .before .fault .ensures)))
+    let s = c .before .before .before .before .before .before .before .before .before in
+    rw (c .stopped .ensures, c .before .placed .ensures)
+    (stepped-bad _ (s .args .kind) (s .args .at) _ 0 _ _ _ (s .pre .0 .1) _ (bad (c .before .before .before .before .before .currency-at .ensures) (c .before .before .before .enum-told .given .1) (c .before .before .fault .ensures)))
 
 take-parts-requires : tie.Need-take-parts-requires
 take-parts-requires c κs =
@@ -63,6 +66,9 @@ enum-known-fault c = search needs
 
 placed-requires-2 : tie.Need-placed-requires-2
 placed-requires-2 c κs = search needs
+
+stopped-requires-2 : tie.Need-stopped-requires-2
+stopped-requires-2 c κs = search needs
 
 enum-told-2 : tie.Need-enum-told-2
 enum-told-2 c = search needs
@@ -90,8 +96,9 @@ same-length-5 c = search needs
 
 returns-2 : tie.Need-returns-2
 returns-2 c =
-    let s = c .before .before .before .before .before .before .before .before .before .before .before .before .before .before .before .before .before .before .before .before .before .before .before .before in
-    rw (c .placed2 .ensures) (stepped-refused _ (s .args .kind) (s .args .at) _ 0 _ _ _ (s .pre .0 .1) _ (c .before .before .before .before .before .before .before .before .before .before .before .take-parts .ensures) (c .before .before .fault2 .given .1))
+    let s = c .before .before .before .before .before .before .before .before .before .before .before .before .before .before .before .before .before .before .before .before .before .before .before .before .before in
+    rw (c .stopped2 .ensures, c .before .placed2 .ensures)
+    (stepped-refused _ (s .args .kind) (s .args .at) _ 0 _ _ _ (s .pre .0 .1) _ (c .before .before .before .before .before .before .before .before .before .before .before .before .take-parts .ensures) (c .before .before .before .fault2 .given .1))
 
 same-length-6 : tie.Need-same-length-6
 same-length-6 c = search needs
@@ -124,10 +131,12 @@ take-record-spec =
     enum-told
     fault-requires
     placed-requires
+    stopped-requires
     returns
     take-parts-requires
     enum-known-fault
     placed-requires-2
+    stopped-requires-2
     enum-told-2
     curve-kind-requires
     marked-requires
