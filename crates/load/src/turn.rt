@@ -10,7 +10,7 @@ ghost use Rattle.arrays.specs.Arrays.{Holding};
 ghost use Rattle.arrays.specs.Lent.{lent, before, after};
 ghost use Rattle.record.specs.Answers.{Body};
 ghost use Rattle.reader.specs.Reader.{standsAt};
-ghost use Rattle.load.specs.Step.{TakesRecord, StepsOver, Turns, faultAt, masksAs, stopsWith};
+ghost use Rattle.load.specs.Step.{TakesRecord, StepsOver, Turns, faultAt, masksAs, onTo, stopsWith};
 use arrays::masks::Masks;
 use arrays::masks::has_curve;
 use arrays::masks::marked;
@@ -40,6 +40,18 @@ pub struct Step {
     pub curved: u32,
     pub on: bool,
     pub answer: Walked,
+}
+
+fn went_on(next: usize, masks: Masks) -> Step
+    ensures { λ r. ⌜ r ≡ onTo next masks ⌝ }
+{
+    Step {
+        used: masks.used,
+        next,
+        curved: masks.curved,
+        on: true,
+        answer: Walked::All(masks),
+    }
 }
 
 fn stopped(answer: Walked) -> Step
@@ -132,14 +144,10 @@ fn take_record(
     ) {
         Taken::Refused(fault) => stopped(Walked::Refused(placed(fault, at))),
         Taken::Done => {
-            let marks = marked(masks, curve_kind(kind), currency);
-            Step {
-                used: marks.used,
-                next,
-                curved: marks.curved,
-                on: true,
-                answer: Walked::All(marks),
+            if curve_kind(kind) {
+                return went_on(next, marked(masks, true, currency));
             }
+            went_on(next, marked(masks, false, currency))
         }
     }
 }
