@@ -41,7 +41,8 @@ module _ {M : Type 1} (𝓤 : URA M) (H : Heap 𝓤) (A : Atoms 𝓤) where
   locals (local τ h ∷ ls) bs vs Γ = locals ls (bs .1) (others vs) (cell τ (bs .0) (first vs) ∷ ‵ (fdies τ (bs .0)) ∷ Γ)
 
   module _ {K : Type 0} (W : Given 𝓤 H A) where
-    pub alloc-all : K → (ls : List Local) {Γ : List (Item 𝓤)} {G : Env 𝓤 H → Goal 𝓤 H} → ((bs : Addresses ls) → Seq K W (locals ls bs [] Γ) (G (envAt ls bs))) → Seq K W Γ (allocs ls G)
+    pub alloc-all : K → (ls : List Local) {Γ : List (Item 𝓤)} {G : Env 𝓤 H → Goal 𝓤 H}
+        → ((bs : Addresses ls) → Seq K W (locals ls bs [] Γ) (G (envAt ls bs))) → Seq K W Γ (allocs ls G)
     alloc-all t [] k = alloc0 t $ k tt
     alloc-all t (local τ h ∷ ls) k = alloc1 t (λ b. alloc-all t ls (λ bs. k (b, bs)))
 
@@ -60,7 +61,8 @@ module _ {M : Type 1} (𝓤 : URA M) (H : Heap 𝓤) (A : Atoms 𝓤) where
     empties τ b none = id⊢ 𝓤 (H .room τ b zero)
     empties τ b (some v) = W .laws .at-room τ b zero v
 
-    rooms : (ls : List Local) (bs : Addresses ls) (vs : List (Option Val)) (Γ : List (Item 𝓤)) → ent 𝓤 (⋆ 𝓤 H A (locals ls bs vs Γ)) (sep 𝓤 (⋆ 𝓤 H A Γ) (release 𝓤 H (envAt ls bs) (emp 𝓤)))
+    rooms : (ls : List Local) (bs : Addresses ls) (vs : List (Option Val)) (Γ : List (Item 𝓤))
+        → ent 𝓤 (⋆ 𝓤 H A (locals ls bs vs Γ)) (sep 𝓤 (⋆ 𝓤 H A Γ) (release 𝓤 H (envAt ls bs) (emp 𝓤)))
     rooms [] bs vs Γ = via 𝓤 (sep 𝓤 (emp 𝓤) (⋆ 𝓤 H A Γ)) (emp∗ 𝓤 (⋆ 𝓤 H A Γ)) (comm∗ 𝓤 (emp 𝓤) (⋆ 𝓤 H A Γ))
     rooms (local τ h ∷ ls) bs vs Γ =
         let c = cell τ (bs .0) (first vs) in
@@ -75,5 +77,5 @@ module _ {M : Type 1} (𝓤 : URA M) (H : Heap 𝓤) (A : Atoms 𝓤) where
     pub free-all : (ls : List Local) (bs : Addresses ls) (vs : List (Option Val)) (i : Item 𝓤) {P : SProp 𝓤} → ent 𝓤 (mean 𝓤 H A i) P
         → ent 𝓤 (sep 𝓤 (mean 𝓤 H A i) (⋆ 𝓤 H A (locals ls bs vs []))) (release 𝓤 H (envAt ls bs) P)
     free-all ls bs vs i {P} k =
-        via 𝓤 (sep 𝓤 P (release 𝓤 H (envAt ls bs) (emp 𝓤))) (mono∗ 𝓤 k (via 𝓤 (sep 𝓤 (emp 𝓤) (release 𝓤 H (envAt ls bs) (emp 𝓤))) (rooms ls bs vs []) (snd∗ 𝓤 (emp 𝓤) (release 𝓤 H (envAt ls bs) (emp 𝓤)))))
-        (into (envAt ls bs) P)
+        let R = release 𝓤 H (envAt ls bs) (emp 𝓤) in
+        via 𝓤 (sep 𝓤 P R) (mono∗ 𝓤 k (via 𝓤 (sep 𝓤 (emp 𝓤) R) (rooms ls bs vs []) (snd∗ 𝓤 (emp 𝓤) R))) (into (envAt ls bs) P)

@@ -5,7 +5,7 @@ use mathlib.Core.Path.{_≡_, refl, sym, ap, ap₂, _∙_}
 use native.Mathlib.Omega.{arith}
 use Rattle.paper.specs.declared.Refusal.{Refusal}
 use Rattle.paper.specs.declared.Fault.{Fault}
-use Rattle.paper.specs.Refusals.{Checked, accepted, refused}
+use Rattle.paper.specs.Refusals.{Checked, refused}
 use Rattle.paper.specs.Records.{Record}
 use Rattle.arrays.specs.Arrays.{Arrays}
 use Rattle.arrays.proofs.Sets.{one-mask}

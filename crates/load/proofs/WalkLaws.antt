@@ -1,10 +1,11 @@
 -- What a turn makes of the walk: it goes on, or it is over and has its answer.
 use Prim.Native.Nat.{ℕ, _≤_, _<_}
-use mathlib.Core.Bool.{Bool, true, false}
+use mathlib.Core.Bool.{Bool, true, false, not}
 use mathlib.Core.List.{List}
 use mathlib.Core.Path.{_≡_, refl, sym, ap, subst, _∙_}
 use native.Mathlib.Omega.{arith}
 use borrow.Author.Tests.{leb-true, leb-false}
+use lib.Dec.{T as Holds}
 use lib.ListN.{length}
 use Rattle.laws.specs.Tests.{_upTo_}
 use Rattle.paper.specs.declared.Refusal.{Refusal}
@@ -13,7 +14,7 @@ use Rattle.paper.specs.Refusals.{Checked, accepted, refused}
 use Rattle.paper.specs.Records.{Record, currencies}
 use Rattle.paper.specs.Book.{recordAt, nextAt}
 use Rattle.arrays.specs.declared.masks.Masks.{Masks}
-use Rattle.arrays.specs.Arrays.{Arrays, arraysOf}
+use Rattle.arrays.specs.Arrays.{Arrays, arraysOf, Sized}
 use Rattle.load.specs.declared.turn.Walked.the-variants.{All, Refused}
 use Rattle.load.specs.declared.turn.Step.{Step}
 use Rattle.load.specs.Step.{masksAs, tested, Turned, Turns}
@@ -28,9 +29,6 @@ refused-once f g e = cc
 
 all-refused : {B : Type 0} (m : Masks) (f : Fault) → All m ≡ Refused f → B
 all-refused m f e = let z : _≡_ {A = ℕ} 0 1 = cc in absurd (omega arith)
-
-not-both : {B : Type 0} {b : Bool} → b ≡ true → b ≡ false → B
-not-both e f = let z : _≡_ {A = ℕ} 0 1 = cc in absurd (omega arith)
 
 -- where the walk goes on after a turn
 pub record GoesOn (book : List ℕ) (at : ℕ) (answer : Step) (a : Arrays) : Type 0 where
@@ -65,22 +63,39 @@ module _ (book : List ℕ) (a : Arrays) (at : ℕ) (m : Masks) (w : Walking book
   }
 
   module _ (answer : Step) (a' : Arrays) where
-    off : (over : Bool) (x : Checked Record) → length book upTo at ≡ over → read ≡ x → Turned over x (nextAt book at) m a answer a' → answer .on ≡ false → IsOver book a answer a'
+    off : (over : Bool) (x : Checked Record) → length book upTo at ≡ over → read ≡ x
+        → Turned over x (nextAt book at) m a answer a' → Holds (not (answer .on)) → IsOver book a answer a'
     off true x o e t f = rw (t .answered) (record { walks = walks-ended a' (leb-true (length book) at o) (t .arrays); untouched = t .arrays })
     off false (refused q place) o e t f = rw (t .answered) (record { walks = walks-stopped q place a' (leb-false (length book) at o) e (t .arrays); untouched = t .arrays })
-    off false (accepted r) o e t f = not-both (ap (λ (u : Step). u .on) (t .answered)) f
+    off false (accepted r) o e t f = absurd (subst (λ (u : Step). Holds (not (u .on))) (t .answered) f)
 
-    on : (over : Bool) (x : Checked Record) → length book upTo at ≡ over → read ≡ x → Turned over x (nextAt book at) m a answer a' → answer .on ≡ true → GoesOn book at answer a'
+    on : (over : Bool) (x : Checked Record) → length book upTo at ≡ over → read ≡ x → Turned over x (nextAt book at) m a answer a' → Holds (answer .on) → GoesOn book at answer a'
     unfolding nextAt
-    on true x o e t f = not-both f (ap (λ (u : Step). u .on) (t .answered))
-    on false (refused q place) o e t f = not-both f (ap (λ (u : Step). u .on) (t .answered))
+    on true x o e t f = absurd (subst (λ (u : Step). Holds (u .on)) (t .answered) f)
+    on false (refused q place) o e t f = absurd (subst (λ (u : Step). Holds (u .on)) (t .answered) f)
     on false (accepted r) o e t f =
         let l = leb-false (length book) at o in
         rw (t .answered) (record { inside = l; forward = omega arith; walking = takes book a at m w l r a' e (t .arrays) })
 
     module _ (t : Turns book at m a answer a') where
-      pub walks-off : answer .on ≡ false → IsOver book a answer a'
+      pub walks-off : Holds (not (answer .on)) → IsOver book a answer a'
       walks-off f = off (length book upTo at) read refl refl t f
 
-      pub walks-on : answer .on ≡ true → GoesOn book at answer a'
+      pub walks-on : Holds (answer .on) → GoesOn book at answer a'
       walks-on f = on (length book upTo at) read refl refl t f
+
+-- ---- arrays of as many currencies are as long
+
+abbrev pub AsLong : Arrays → Arrays → Type 0
+AsLong x y =
+    (length (x .ledger) ≡ length (y .ledger)) × ((length (x .rates) ≡ length (y .rates)) × ((length (x .addOns) ≡ length (y .addOns))
+    × ((length (x .sizes) ≡ length (y .sizes)) × ((length (x .optionSizes) ≡ length (y .optionSizes)) × Unit {0}))))
+
+pub as-long : {n : ℕ} {x y z : Arrays} → z ≡ x → Sized n x → Sized n y → AsLong z y
+as-long e p q =
+    let ledger = p .ledger-long ∙ sym (q .ledger-long) in
+    let rates = p .rates-long ∙ sym (q .rates-long) in
+    let addOns = p .addOns-long ∙ sym (q .addOns-long) in
+    let sizes = p .sizes-long ∙ sym (q .sizes-long) in
+    let optionSizes = p .optionSizes-long ∙ sym (q .optionSizes-long) in
+    rw e (ledger, (rates, (addOns, (sizes, (optionSizes, tt)))))

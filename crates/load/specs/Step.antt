@@ -44,11 +44,11 @@ masksAs used curved = record { used = used; curved = curved }
 
 -- the walk goes on at the next place with these masks
 abbrev pub onTo : ℕ → Masks → Step
-onTo next m = record { used = m .used; next = next; curved = m .curved; on = true; answer = All m }
+onTo next m = record { on = true; next = next; used = m .used; curved = m .curved; answer = All m }
 
 -- the walk is over, and this is its answer
 abbrev pub stopsWith : Walked → Step
-stopsWith answer = record { used = 0; next = 0; curved = 0; on = false; answer = answer }
+stopsWith answer = record { on = false; next = 0; used = 0; curved = 0; answer = answer }
 
 abbrev pub refusedFor : Fault → Step
 refusedFor f = stopsWith (Refused f)

@@ -32,13 +32,12 @@ pub enum Walked {
     Refused(Fault),
 }
 
-// After a record that is kept the walk goes on: the currencies used then, the next place, the currencies with a curve then. Else it is over. The answer is the walk's, if it
-// ends there. The place stands between the masks, because side by side they are one word, packed and taken apart again at every record.
+// After a record that is kept the walk goes on, at the next place and with the currencies used and curved so far. Else it is over. The answer is the walk's, if it ends there.
 pub struct Step {
-    pub used: u32,
-    pub next: usize,
-    pub curved: u32,
     pub on: bool,
+    pub next: usize,
+    pub used: u32,
+    pub curved: u32,
     pub answer: Walked,
 }
 
@@ -46,10 +45,10 @@ fn went_on(next: usize, masks: Masks) -> Step
     ensures { λ r. ⌜ r ≡ onTo next masks ⌝ }
 {
     Step {
-        used: masks.used,
-        next,
-        curved: masks.curved,
         on: true,
+        next,
+        used: masks.used,
+        curved: masks.curved,
         answer: Walked::All(masks),
     }
 }
@@ -58,10 +57,10 @@ fn stopped(answer: Walked) -> Step
     ensures { λ r. ⌜ r ≡ stopsWith answer ⌝ }
 {
     Step {
-        used: 0,
-        next: 0,
-        curved: 0,
         on: false,
+        next: 0,
+        used: 0,
+        curved: 0,
         answer,
     }
 }
@@ -144,6 +143,7 @@ fn take_record(
     ) {
         Taken::Refused(fault) => stopped(Walked::Refused(placed(fault, at))),
         Taken::Done => {
+            // A curve and a position go on apart, so that no record pays for choosing its mask.
             if curve_kind(kind) {
                 return went_on(next, marked(masks, true, currency));
             }
