@@ -29,6 +29,7 @@ use Rattle.arrays.proofs.More.{nothing-kept}
 use Rattle.arrays.proofs.Bounds.{arrays-sized}
 use Rattle.valuation.specs.Bounds.{Bounds}
 use Rattle.valuation.proofs.KeptRecords.{kept-bounds, kept-report}
+use Rattle.load.specs.Walk.{keptIn}
 use Rattle.load.specs.Load.{ofRecords, AllLoaded}
 use Rattle.book.specs.declared.assess.Assessed.{Assessed}
 use Rattle.book.specs.declared.assess.Assessed.the-variants as assessed
@@ -84,27 +85,27 @@ module _ (book : List ℕ) (T : ℕ) (report ledger : List ℤ) (ledger-long : l
       → Answers (ofRecords book) T report ledger (assessed.Refused f) report ledger'
   answers-refused full ledger' f e same is-clear = cleared full ledger' f e (cause-of (records-good currencies book) (f .cause) (f .place) e) ledger-long same is-clear
 
-  module _ (curves : ℕ) (a : Arrays) (all : AllLoaded book curves a) where
-    good : Good (all .kept)
-    good = known-of (records-good currencies book) (all .kept) (all .loaded)
+  module _ (curves : ℕ) (a : Arrays) (holds : a ≡ arraysOf (keptIn book)) (all : AllLoaded book curves) where
+    good : Good (keptIn book)
+    good = known-of (records-good currencies book) (keptIn book) (all .loaded)
 
     -- what the report may rely on
     pub all-sized : Sized currencies a
-    all-sized = rw (all .arrays) (arrays-sized (all .kept) good)
+    all-sized = rw holds (arrays-sized (keptIn book) good)
 
     pub bounds-hold : Bounds (totalsBy (a .ledger) (a .addOns) (a .rates)) (curvedBy curves)
-    bounds-hold = rw (all .arrays) (kept-bounds (all .kept) good curves (all .curved-is) (known-of (records-covered book) (all .kept) (all .loaded)))
+    bounds-hold = rw holds (kept-bounds (keptIn book) good curves (all .curved-is) (known-of (records-covered book) (keptIn book) (all .loaded)))
 
     pub answers-reported : length report ≡ figures currencies
         → Answers (ofRecords book) T report ledger (assessed.Reported curves) (reportOf currencies (totalsBy (a .ledger) (a .addOns) (a .rates)) T) (a .ledger)
     unfolding told answerOf reportAfter ledgerAfter arraysOf
     answers-reported report-long =
-        let accepts : ofRecords book ≡ accepted (all .kept) = all .loaded in
+        let accepts : ofRecords book ≡ accepted (keptIn book) = all .loaded in
         record {
           says = rw accepts;
-          curves-are = λ curves' kept same also. one-mask curves curves' (all .kept) kept same (sym accepts ∙ also) (all .curved-is);
-          report-is = rw (accepts, all .arrays, kept-report (all .kept) T, drop-of-length-le report {i = figures currencies} (omega arith), append-nil (reportOf currencies (totals (all .kept)) T));
-          ledger-is = rw (accepts, all .arrays, drop-of-length-le ledger {i = cells currencies} (omega arith), append-nil (ledgerOf currencies (totals (all .kept) .cell)));
+          curves-are = λ curves' kept same also. one-mask curves curves' (keptIn book) kept same (sym accepts ∙ also) (all .curved-is);
+          report-is = rw (accepts, holds, kept-report (keptIn book) T, drop-of-length-le report {i = figures currencies} (omega arith), append-nil (reportOf currencies (totals (keptIn book)) T));
+          ledger-is = rw (accepts, holds, drop-of-length-le ledger {i = cells currencies} (omega arith), append-nil (ledgerOf currencies (totals (keptIn book) .cell)));
         }
 
 -- ---- by the book, the capital and the rooms

@@ -1,12 +1,12 @@
 -- The walk's invariant, and what each way on or out makes of it.
 use Prim.Native.Nat.{ℕ, zero, suc, pred, _-_, _≤_, _<_}
 use mathlib.Core.List.{List, [], _∷_, _++_}
-use mathlib.Core.Path.{_≡_, refl, sym, ap, ap₂, _∙_}
+use mathlib.Core.Path.{_≡_, refl, sym, ap, _∙_}
 use native.Mathlib.Numerals.{sub-one}
 use native.Mathlib.Omega.{arith}
 use borrow.Author.Tests.{le-leb, lt-leb}
 use lib.ListN.{length}
-use Rattle.paper.specs.declared.Fault.{Fault}
+use Rattle.paper.specs.declared.Refusal.{Refusal}
 use Rattle.paper.specs.Refusals.{Checked, accepted, refused, _>>=_}
 use Rattle.paper.specs.Records.{Record, currencies}
 use Rattle.paper.specs.Ledger.{SoFar, soFar, curved}
@@ -21,10 +21,7 @@ use Rattle.arrays.proofs.More.{arrays-more, size-is, optionSize-is}
 use Rattle.arrays.proofs.Bounds.{holding}
 use Rattle.arrays.proofs.Sets.{MasksOf, masks-none, masks-more}
 use Rattle.arrays.proofs.Agree.{Agree, record-agrees, sound-currency, sound-fresh}
-use Rattle.load.specs.declared.turn.Step.{Step}
-use Rattle.load.specs.declared.turn.Step.the-variants.{Refused}
-use Rattle.posting.specs.Answers.{into}
-use Rattle.load.specs.Step.{onTo, stepped, Stepped}
+use Rattle.load.specs.Walk.{orElse, keptFrom, keptIn}
 
 -- the walk is at a place with the records kept in its arrays; the fuel is more than the bytes left
 pub record Walking (book : List ℕ) (a : Arrays) (at : ℕ) (m : Masks) : Type 0 where
@@ -32,13 +29,14 @@ pub record Walking (book : List ℕ) (a : Arrays) (at : ℕ) (m : Masks) : Type 
   pub fuel : ℕ
   pub more : length book - at ≤ fuel
   pub same : walkFrom currencies fuel book at kept ≡ walk currencies book
+  pub ends-with : keptFrom fuel book at kept ≡ keptIn book
   pub arrays : a ≡ arraysOf kept
   pub masks : MasksOf m kept
   pub good : Good kept
 
 pub begun : (book : List ℕ) (a : Arrays) → a ≡ arraysOf [] → Walking book a 0 (record { used = 0; curved = 0 })
-unfolding walk
-begun book a e = record { kept = []; fuel = length book; more = omega arith; same = refl; arrays = e; masks = masks-none; good = good-none }
+unfolding walk keptIn
+begun book a e = record { kept = []; fuel = length book; more = omega arith; same = refl; ends-with = refl; arrays = e; masks = masks-none; good = good-none }
 
 -- ---- a turn of the paper's walk
 
@@ -53,19 +51,16 @@ unfolding walkFrom
 over zero book at kept l = refl
 over (suc fuel) book at kept l = rw (le-leb (length book) at l)
 
--- what an answer says of what was read
-pub on-read : (x : Checked Record) (next next' : ℕ) (m m' : Masks) → onTo next' m' ≡ stepped x next m → (r : Record) × (x ≡ accepted r) × (next' ≡ next) × (m' ≡ marked r m)
-on-read (accepted r) next next' m m' e =
-    let same : (m' .used ≡ marked r m .used) × (m' .curved ≡ marked r m .curved) = (cc, cc) in
-    (r, refl, cc, ap₂ masks (same .0) (same .1))
-  where
-    masks : ℕ → ℕ → Masks
-    masks u c = record { used = u; curved = c }
-on-read (refused q place) next next' m m' e = let z : _≡_ {A = ℕ} 0 1 = cc in absurd (omega arith)
+turn-kept : (fuel : ℕ) (book : List ℕ) (at : ℕ) (kept : List Record) → 0 < fuel → at < length book
+    → keptFrom fuel book at kept ≡ orElse kept (recordAt currencies (soFar kept) book at) (λ r. keptFrom (pred fuel) book (nextAt book at) (kept ++ (r ∷ [])))
+unfolding keptFrom
+turn-kept zero book at kept f l = absurd (omega arith)
+turn-kept (suc fuel) book at kept f l = rw (lt-leb (length book) at l)
 
-refused-read : (x : Checked Record) (next : ℕ) (m : Masks) (f : Fault) → Refused f ≡ stepped x next m → x ≡ refused (f .cause) (f .place)
-refused-read (accepted r) next m f e = let z : _≡_ {A = ℕ} 0 1 = cc in absurd (omega arith)
-refused-read (refused q place) next m f e = let same : f ≡ record { cause = q; place = place } = cc in sym (ap (λ (g : Fault). refused (g .cause) (g .place)) same)
+over-kept : (fuel : ℕ) (book : List ℕ) (at : ℕ) (kept : List Record) → length book ≤ at → keptFrom fuel book at kept ≡ kept
+unfolding keptFrom
+over-kept zero book at kept l = refl
+over-kept (suc fuel) book at kept l = rw (le-leb (length book) at l)
 
 module _ (book : List ℕ) (a : Arrays) (at : ℕ) (m : Masks) (w : Walking book a at m) where
   pub holds : Holding m a
@@ -85,39 +80,52 @@ module _ (book : List ℕ) (a : Arrays) (at : ℕ) (m : Masks) (w : Walking book
   here : recordAt currencies before book at ≡ recordAt currencies (soFar (w .kept)) book at
   here = record-agrees before (soFar (w .kept)) agrees book at
 
-  pub ended : length book ≤ at → walk currencies book ≡ accepted (w .kept)
-  ended l = sym (w .same) ∙ over (w .fuel) book at (w .kept) l
+  -- at the end of the book
+  module _ (l : length book ≤ at) where
+    pub all-of-them : keptIn book ≡ w .kept
+    all-of-them = sym (w .ends-with) ∙ over-kept (w .fuel) book at (w .kept) l
 
-  module _ (l : at < length book) (answer : Step) (a' : Arrays) (s : Stepped (recordAt currencies before book at) (nextAt book at) m a answer a') where
-    -- the rest of the paper's walk, by what was read
-    goes : (x : Checked Record) → recordAt currencies before book at ≡ x
-        → (x >>= (λ r. walkFrom currencies (pred (w .fuel)) book (nextAt book at) (w .kept ++ (r ∷ [])))) ≡ walk currencies book
+    pub ended : walk currencies book ≡ accepted (keptIn book)
+    ended = sym (w .same) ∙ over (w .fuel) book at (w .kept) l ∙ ap accepted (sym all-of-them)
+
+  -- a record stands here: the rest of the paper's walk, by what was read
+  module _ (l : at < length book) where
+    abbrev read : Checked Record
+    read = recordAt currencies before book at
+
+    goes : (x : Checked Record) → read ≡ x → (x >>= (λ r. walkFrom currencies (pred (w .fuel)) book (nextAt book at) (w .kept ++ (r ∷ [])))) ≡ walk currencies book
     goes x e =
         ap (λ (y : Checked Record). y >>= (λ r. walkFrom currencies (pred (w .fuel)) book (nextAt book at) (w .kept ++ (r ∷ [])))) (sym e ∙ here)
         ∙ sym (turn (w .fuel) book at (w .kept) (omega (arith, w .more)) l)
         ∙ w .same
 
-    pub stops : (f : Fault) → answer ≡ Refused f → walk currencies book ≡ refused (f .cause) (f .place)
-    unfolding _>>=_
-    stops f e = sym (goes (refused (f .cause) (f .place)) (refused-read (recordAt currencies before book at) (nextAt book at) m f (sym e ∙ s .answered)))
+    goes-kept : (x : Checked Record) → read ≡ x → orElse (w .kept) x (λ r. keptFrom (pred (w .fuel)) book (nextAt book at) (w .kept ++ (r ∷ []))) ≡ keptIn book
+    goes-kept x e =
+        ap (λ (y : Checked Record). orElse (w .kept) y (λ r. keptFrom (pred (w .fuel)) book (nextAt book at) (w .kept ++ (r ∷ [])))) (sym e ∙ here)
+        ∙ sym (turn-kept (w .fuel) book at (w .kept) (omega (arith, w .more)) l)
+        ∙ w .ends-with
 
-    takes : (r : Record) (next : ℕ) (m' : Masks) → recordAt currencies before book at ≡ accepted r → next ≡ nextAt book at → m' ≡ marked r m
-        → Walking book a' next m'
+    module _ (q : Refusal) (place : ℕ) (e : read ≡ refused q place) where
+      pub stops : walk currencies book ≡ refused q place
+      unfolding _>>=_
+      stops = sym (goes (refused q place) e)
+
+      -- the arrays are as they were
+      pub stops-with : a ≡ arraysOf (keptIn book)
+      stops-with = w .arrays ∙ ap arraysOf (goes-kept (refused q place) e)
+
+    pub takes : (r : Record) (a' : Arrays) → read ≡ accepted r → a' ≡ withRecord r a → Walking book a' (nextAt book at) (marked r m)
     unfolding _>>=_ nextAt
-    takes r next m' read forward marks =
-        let p : Passed currencies (w .kept) r = known-of (record-passed currencies (w .kept) book at) r (sym here ∙ read) in
+    takes r a' e taken =
+        let p : Passed currencies (w .kept) r = known-of (record-passed currencies (w .kept) book at) r (sym here ∙ e) in
         let c = sound-currency (curved (w .kept)) r (p .sound) in
         record {
           kept = w .kept ++ (r ∷ []);
           fuel = pred (w .fuel);
-          more = omega (arith, sub-one (w .fuel), w .more, forward);
-          same = ap (λ (n : ℕ). walkFrom currencies (pred (w .fuel)) book n (w .kept ++ (r ∷ []))) forward ∙ goes (accepted r) read;
-          arrays = s .arrays ∙ ap (λ (y : Checked Record). into withRecord y a) read ∙ ap (withRecord r) (w .arrays) ∙ sym (arrays-more (w .kept) r (c .from) (c .to) (sound-fresh (curved (w .kept)) r (p .sound)));
-          masks = rw marks (masks-more m (w .kept) r (c .from) (c .to) (w .masks));
+          more = omega (arith, sub-one (w .fuel), w .more);
+          same = goes (accepted r) e;
+          ends-with = goes-kept (accepted r) e;
+          arrays = taken ∙ ap (withRecord r) (w .arrays) ∙ sym (arrays-more (w .kept) r (c .from) (c .to) (sound-fresh (curved (w .kept)) r (p .sound)));
+          masks = masks-more m (w .kept) r (c .from) (c .to) (w .masks);
           good = good-more r (w .good) p;
         }
-
-    pub goes-on : (next : ℕ) (m' : Masks) → answer ≡ onTo next m' → Walking book a' next m'
-    goes-on next m' e =
-        let f = on-read (recordAt currencies before book at) (nextAt book at) next m m' (sym e ∙ s .answered) in
-        takes (f .0) next m' (f .1) (f .2) (f .3)

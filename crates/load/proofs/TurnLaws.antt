@@ -24,12 +24,12 @@ use Rattle.arrays.specs.Arrays.{Arrays, Holding}
 use Rattle.posting.specs.declared.Taken.{Taken}
 use Rattle.posting.specs.declared.Taken.the-variants as taken
 use Rattle.posting.specs.Answers.{takenOf}
+use Rattle.load.specs.declared.turn.Walked.the-variants.{All}
 use Rattle.load.specs.declared.turn.Step.{Step}
-use Rattle.load.specs.declared.turn.Step.the-variants as step
 use Rattle.reader.specs.declared.Found.{Found}
 use Rattle.reader.specs.declared.Found.the-variants as found
 use Rattle.reader.specs.Reader.{standsAt}
-use Rattle.load.specs.Step.{RecordTaken, faultAt, onTo, stepped, Stepped, Turned}
+use Rattle.load.specs.Step.{RecordTaken, faultAt, onTo, stopsWith, refusedFor, Stepped, Turned}
 
 -- ---- an answer of the reader, back to the tests
 
@@ -114,25 +114,25 @@ module _ (book : List ℕ) (at : ℕ) where
 -- ---- the turn
 
 module _ (before : SoFar) (book : List ℕ) (at : ℕ) (m : Masks) (a : Arrays) where
-  abbrev Turn : Step → Arrays → Type 0
-  Turn answer a' = Turned (length book upTo at) (recordAt currencies before book at) (nextAt book at) m a answer a'
+  abbrev Answers : Step → Arrays → Type 0
+  Answers answer a' = Turned (length book upTo at) (recordAt currencies before book at) (nextAt book at) m a answer a'
 
-  pub turn-end : found.End ≡ standsAt book at → Turn step.End a
+  pub turn-end : found.End ≡ standsAt book at → Answers (stopsWith (All m)) a
   unfolding standsAt
   turn-end e = rw (ends (kind book at) (suc at) (nextAt book at) (over book at) (unknownKind (kind book at)) (cut book at) e) (record { answered = refl; arrays = refl })
 
-  pub turn-unknown : found.UnknownKind ≡ standsAt book at → Turn (step.Refused (record { cause = refusal.UnknownKind; place = at })) a
+  pub turn-unknown : found.UnknownKind ≡ standsAt book at → Answers (refusedFor (record { cause = refusal.UnknownKind; place = at })) a
   unfolding standsAt recordAt placed unless _>>_
   turn-unknown e = let f = no-kind (kind book at) (suc at) (nextAt book at) (over book at) (unknownKind (kind book at)) (cut book at) e in rw (f .0, f .1) (record { answered = refl; arrays = refl })
 
-  pub turn-cut : found.CutShort ≡ standsAt book at → Turn (step.Refused (record { cause = refusal.CutShort; place = at })) a
+  pub turn-cut : found.CutShort ≡ standsAt book at → Answers (refusedFor (record { cause = refusal.CutShort; place = at })) a
   unfolding standsAt recordAt placed unless _>>_
   turn-cut e =
       let f = cut-off (kind book at) (suc at) (nextAt book at) (over book at) (unknownKind (kind book at)) (cut book at) e in
       rw (f .0, f .1, f .2) (record { answered = refl; arrays = refl })
 
   pub turn-record : (k s n : ℕ) → found.Record k s n ≡ standsAt book at → {answer : Step} {a' : Arrays}
-      → Stepped (placed at (admitted currencies before k (take (n - s) (drop s book)))) n m a answer a' → Turn answer a'
+      → Stepped (placed at (admitted currencies before k (take (n - s) (drop s book)))) n m a answer a' → Answers answer a'
   unfolding recordAt unless _>>_
   turn-record k s n e t =
       let f = found-lies book at k s n e in
@@ -155,7 +155,7 @@ module _ (before : SoFar) (kind at next c : ℕ) (body : List ℕ) (m : Masks) (
 
   -- its currency is bad
   pub stepped-bad : (f : Fault) → currencyAt currencies body 0 ≡ refused (f .cause) (f .place)
-      → Stepped (placed at read) next m a (step.Refused (faultAt at f)) a
+      → Stepped (placed at read) next m a (refusedFor (faultAt at f)) a
   unfolding admitted _>>=_ placed
   stepped-bad f e = rw (first-field currencies (before .curved) kind body .refuses sort (f .cause) (f .place) e) (record { answered = refl; arrays = refl })
 
@@ -168,7 +168,7 @@ module _ (before : SoFar) (kind at next c : ℕ) (body : List ℕ) (m : Masks) (
   done-taken (refused q place) e = let z : _≡_ {A = ℕ} 0 1 = cc in absurd (omega arith)
 
   -- it is refused for another cause
-  pub stepped-refused : (f : Fault) {answer : Taken} {a' : Arrays} → RecordTaken read a answer a' → answer ≡ taken.Refused f → Stepped (placed at read) next m a (step.Refused (faultAt at f)) a'
+  pub stepped-refused : (f : Fault) {answer : Taken} {a' : Arrays} → RecordTaken read a answer a' → answer ≡ taken.Refused f → Stepped (placed at read) next m a (refusedFor (faultAt at f)) a'
   unfolding placed
   stepped-refused f t e =
       let is-refused = refused-taken read f (sym e ∙ t .answered) in
@@ -187,18 +187,3 @@ module _ (before : SoFar) (kind at next c : ℕ) (body : List ℕ) (m : Masks) (
         answered = ap (onTo next) (marks ∙ ap₂ (λ (b : Bool) (n : ℕ). markedBy b n m) (sym sorts) mine);
         arrays = rw (d .1) at (t .arrays);
       })
-
--- ---- and what a turn says
-
-module _ (read : Checked Record) (next : ℕ) (m : Masks) (a : Arrays) (answer : Step) (a' : Arrays) where
-  step-ends : (x : Checked Record) → step.End ≡ stepped x next m → ⊥
-  step-ends (accepted r) e = let z : _≡_ {A = ℕ} 0 1 = cc in absurd (omega arith)
-  step-ends (refused q place) e = let z : _≡_ {A = ℕ} 0 1 = cc in absurd (omega arith)
-
-  pub is-over : (over : Bool) → Turned over read next m a answer a' → answer ≡ step.End → (over ≡ true) × (a' ≡ a)
-  is-over true t e = (refl, t .arrays)
-  is-over false t e = absurd (step-ends read (sym e ∙ t .answered))
-
-  pub is-step : (over : Bool) → Turned over read next m a answer a' → (answer ≡ step.End → ⊥) → (over ≡ false) × Stepped read next m a answer a'
-  is-step true t f = absurd (f (t .answered))
-  is-step false t f = (refl, record { answered = t .answered; arrays = t .arrays })

@@ -1,6 +1,6 @@
 -- What a turn of the walk answers and leaves, by what was read at its place. A refused record changes nothing.
 use Prim.Native.Nat.{ℕ}
-use mathlib.Core.Bool.{Bool}
+use mathlib.Core.Bool.{Bool, true, false}
 use mathlib.Core.List.{List}
 use mathlib.Core.Path.{_≡_}
 use lib.ListN.{length}
@@ -16,8 +16,9 @@ use Rattle.arrays.specs.Rooms.{soFarBy}
 use Rattle.arrays.specs.Arrays.{Arrays, withRecord}
 use Rattle.posting.specs.declared.Taken.{Taken}
 use Rattle.posting.specs.Answers.{takenOf, into}
+use Rattle.load.specs.declared.turn.Walked.{Walked}
+use Rattle.load.specs.declared.turn.Walked.the-variants.{All, Refused}
 use Rattle.load.specs.declared.turn.Step.{Step}
-use Rattle.load.specs.declared.turn.Step.the-variants.{On, Refused, End}
 
 -- ---- a body, in the arrays
 
@@ -38,13 +39,23 @@ TakesRecord curved kind body a = RecordTaken (admitted currencies (tested curved
 abbrev pub faultAt : ℕ → Fault → Fault
 faultAt at f = record { cause = f .cause; place = at }
 
+abbrev pub masksAs : (used curved : ℕ) → Masks
+masksAs used curved = record { used = used; curved = curved }
+
 -- the walk goes on at the next place with these masks
 abbrev pub onTo : ℕ → Masks → Step
-onTo next m = On (m .used) next (m .curved)
+onTo next m = record { on = true; next = next; used = m .used; curved = m .curved; answer = All m }
+
+-- the walk is over, and this is its answer
+abbrev pub stopsWith : Walked → Step
+stopsWith answer = record { on = false; next = 0; used = 0; curved = 0; answer = answer }
+
+abbrev pub refusedFor : Fault → Step
+refusedFor f = stopsWith (Refused f)
 
 abbrev pub stepped : Checked Record → ℕ → Masks → Step
 stepped (accepted r) next m = onTo next (marked r m)
-stepped (refused q place) next m = Refused (record { cause = q; place = place })
+stepped (refused q place) next m = refusedFor (record { cause = q; place = place })
 
 pub record Stepped (read : Checked Record) (next : ℕ) (m : Masks) (a : Arrays) (answer : Step) (a' : Arrays) : Type 0 where
   pub answered : answer ≡ stepped read next m
@@ -56,7 +67,7 @@ StepsOver kind body at next m a = Stepped (placed at (admitted currencies (teste
 
 -- the same at a place where the book may be over: there nothing changes
 pub record Turned (over : Bool) (read : Checked Record) (next : ℕ) (m : Masks) (a : Arrays) (answer : Step) (a' : Arrays) : Type 0 where
-  pub answered : answer ≡ (if over then End else stepped read next m)
+  pub answered : answer ≡ (if over then stopsWith (All m) else stepped read next m)
   pub arrays : a' ≡ (if over then a else into withRecord read a)
 
 abbrev pub Turns : List ℕ → ℕ → Masks → Arrays → Step → Arrays → Type 0

@@ -8,7 +8,7 @@ use arrays::masks::lowest_missing;
 use paper::CURRENCIES;
 use paper::Fault;
 use paper::Refusal;
-use walk::Walked;
+use turn::Walked;
 use walk::walk;
 
 mod turn;

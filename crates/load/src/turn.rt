@@ -9,7 +9,8 @@ ghost use Rattle.paper.specs.TurnedDown.{unknownKind};
 ghost use Rattle.arrays.specs.Arrays.{Holding};
 ghost use Rattle.arrays.specs.Lent.{lent, before, after};
 ghost use Rattle.record.specs.Answers.{Body};
-ghost use Rattle.load.specs.Step.{TakesRecord, StepsOver, Turns, faultAt};
+ghost use Rattle.reader.specs.Reader.{standsAt};
+ghost use Rattle.load.specs.Step.{TakesRecord, StepsOver, Turns, faultAt, masksAs, onTo, stopsWith};
 use arrays::masks::Masks;
 use arrays::masks::has_curve;
 use arrays::masks::marked;
@@ -24,14 +25,44 @@ use paper::SECTION;
 use paper::SHOCKED;
 use posting::Taken;
 use reader::Found;
-use reader::found_at;
 
-// A record is taken: the currencies used then, the next place, the currencies with a curve then; or it is refused; or the book is at its end. The place stands between the
-// masks, because side by side they are one word, packed and taken apart again at every record.
-pub enum Step {
-    On(u32, usize, u32),
+// All records are kept, with the currencies that they use and curve; or one is refused.
+pub enum Walked {
+    All(Masks),
     Refused(Fault),
-    End,
+}
+
+// After a record that is kept the walk goes on, at the next place and with the currencies used and curved so far. Else it is over. The answer is the walk's, if it ends there.
+pub struct Step {
+    pub on: bool,
+    pub next: usize,
+    pub used: u32,
+    pub curved: u32,
+    pub answer: Walked,
+}
+
+fn went_on(next: usize, masks: Masks) -> Step
+    ensures { λ r. ⌜ r ≡ onTo next masks ⌝ }
+{
+    Step {
+        on: true,
+        next,
+        used: masks.used,
+        curved: masks.curved,
+        answer: Walked::All(masks),
+    }
+}
+
+fn stopped(answer: Walked) -> Step
+    ensures { λ r. ⌜ r ≡ stopsWith answer ⌝ }
+{
+    Step {
+        on: false,
+        next: 0,
+        used: 0,
+        curved: 0,
+        answer,
+    }
 }
 
 // The place is the record's first byte, whichever field is at fault.
@@ -96,7 +127,7 @@ fn take_record(
 {
     let read = currency_at(body, 0);
     let Field::Value(currency) = read else {
-        return Step::Refused(placed(read.fault(), at));
+        return stopped(Walked::Refused(placed(read.fault(), at)));
     };
     let curved = masks.curved;
     match take_parts(
@@ -110,38 +141,44 @@ fn take_record(
         sizes,
         options,
     ) {
-        Taken::Refused(fault) => Step::Refused(placed(fault, at)),
+        Taken::Refused(fault) => stopped(Walked::Refused(placed(fault, at))),
         Taken::Done => {
-            let marks = marked(masks, curve_kind(kind), currency);
-            Step::On(marks.used, next, marks.curved)
+            // A curve and a position go on apart, so that no record pays for choosing its mask.
+            if curve_kind(kind) {
+                return went_on(next, marked(masks, true, currency));
+            }
+            went_on(next, marked(masks, false, currency))
         }
     }
 }
 
-// What the reader finds at a place: the end, 1, 2, or a whole body.
-pub fn turn(
-    book: &[u8],
+// What the reader has found at a place: the end, 1, 2, or a whole body. The arrays are lent for one and the same time, that of the turn.
+pub fn turn<'b, 'a>(
+    found: Found,
+    book: &'b [u8],
     at: usize,
-    masks: Masks,
-    ledger: &mut [i64],
-    rates: &mut [i64],
-    addons: &mut [i64],
-    sizes: &mut [u64],
-    options: &mut [u64],
+    used: u32,
+    curved: u32,
+    ledger: &'a mut [i64],
+    rates: &'a mut [i64],
+    addons: &'a mut [i64],
+    sizes: &'a mut [u64],
+    options: &'a mut [u64],
 ) -> Step
-    requires { ⌜ Holding masks (lent ledger rates addons sizes options) ⌝ }
-    ensures { λ r. ⌜ Turns (now (book .entry)) at masks (before ledger rates addons sizes options) r (after ledger rates addons sizes options) ⌝ }
+    requires { ⌜ (found ≡ standsAt (now book) at) × Holding (masksAs used curved) (lent ledger rates addons sizes options) ⌝ }
+    ensures { λ r. ⌜ Turns (now (book .entry)) at (masksAs used curved) (before ledger rates addons sizes options) r (after ledger rates addons sizes options) ⌝ }
 {
-    match found_at(book, at) {
-        Found::End => Step::End,
-        Found::UnknownKind => Step::Refused(Fault {
+    let masks = Masks { used, curved };
+    match found {
+        Found::End => stopped(Walked::All(masks)),
+        Found::UnknownKind => stopped(Walked::Refused(Fault {
             cause: Refusal::UnknownKind,
             place: at,
-        }),
-        Found::CutShort => Step::Refused(Fault {
+        })),
+        Found::CutShort => stopped(Walked::Refused(Fault {
             cause: Refusal::CutShort,
             place: at,
-        }),
+        })),
         Found::Record(kind, start, next) => take_record(
             kind,
             &book[start..next],

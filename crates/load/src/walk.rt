@@ -1,19 +1,14 @@
-// The walk over the book: its records from the first byte on, until they end or one is refused.
+// The walk over the book: one reader goes from record to record, first byte to last, until they end or one is refused.
 ghost use mathlib.Core.List.{[]};
 ghost use mathlib.Core.Path.{_≡_};
 ghost use Rattle.arrays.specs.Arrays.{arraysOf};
 ghost use Rattle.arrays.specs.Lent.{lent, after};
 ghost use Rattle.load.specs.Walk.{Walks};
-use crate::turn::Step;
+use crate::turn::Walked;
 use crate::turn::turn;
-use arrays::masks::Masks;
-use paper::Fault;
-
-// All records are kept, with the currencies that they use and curve; or one is refused.
-pub enum Walked {
-    All(Masks),
-    Refused(Fault),
-}
+use reader::moved;
+use reader::new;
+use reader::next;
 
 // The masks are two numbers here and no struct, so that each has a register of its own.
 pub fn walk(
@@ -27,31 +22,28 @@ pub fn walk(
     requires { ⌜ lent ledger rates addons sizes options ≡ arraysOf [] ⌝ }
     ensures { λ r. ⌜ Walks (now (book .entry)) r (after ledger rates addons sizes options) ⌝ }
 {
-    let mut at = 0;
+    let mut reader = new(book);
     let mut used: u32 = 0;
     let mut curved: u32 = 0;
     loop {
-        match turn(
-            book,
-            at,
-            Masks { used, curved },
+        let step = turn(
+            next(reader),
+            reader.book,
+            reader.at,
+            used,
+            curved,
             ledger,
             rates,
             addons,
             sizes,
             options,
-        ) {
-            Step::End => {
-                return Walked::All(Masks { used, curved });
-            }
-            Step::Refused(fault) => {
-                return Walked::Refused(fault);
-            }
-            Step::On(uses, next, curves) => {
-                at = next;
-                used = uses;
-                curved = curves;
-            }
+        );
+        if step.on {
+            reader = moved(reader, step.next);
+            used = step.used;
+            curved = step.curved;
+        } else {
+            return step.answer;
         }
     }
 }

@@ -1,5 +1,5 @@
 // The book is walked record by record, first byte to last: a reader holds the lent book and its position. Its functions take it apart; the work is done on
-// slice and number by `stands_at`, and other callers have `found_at`.
+// slice and number by `stands_at`.
 ghost use mathlib.Core.Path.{_≡_};
 ghost use Rattle.reader.specs.Reader.{standsAt};
 use kinds::body_length;
@@ -56,10 +56,4 @@ pub fn moved<'a>(reader: Reader<'a>, past: usize) -> Reader<'a>
         book: reader.book,
         at: past,
     }
-}
-
-pub fn found_at(book: &[u8], at: usize) -> Found
-    ensures { λ r. ⌜ r ≡ standsAt (now (book .entry)) at ⌝ }
-{
-    next(moved(new(book), at))
 }

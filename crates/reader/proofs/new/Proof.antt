@@ -55,7 +55,7 @@ module _ {M : Type 1} (𝓤 : URA M) (H : Heap 𝓤) (A : Atoms 𝓤) (W : Given
         qed W ((‵ (flft κ q) ⊛ ‵ ftrue) ∷ ‵ (owns (Lent κ ∷ []) (book, tt) passed) ∷ []) ∵
         suffices ! _ (ends-at 𝓤 H A new.ended at-exit (new.clauses 𝓤 H A mem run) W (((κ, tt), (q, tt), tt, (book, tt), passed), tt) (laws.lowered (at-place book 0)) (at-place book 0) (tt, tt) (tt, tt)) $
         says ! (refl, refl) $ frame ! $ fsplit ! $ use1 W (‵ (OwnsBook κ book) ⊛ ‵ (OwnsBook κ book)) (book-twice 𝓤 H A W κ book) $ split ! $
-        move ! (0 ∷ 2 ∷ []) $ fjoin ! $ frame ! $ by ! (made 𝓤 H A W κ book)
+        move ! (0 ∷ 2 ∷ []) $ fjoin ! $ frame ! $ by ! (made 𝓤 H A W κ book 0 (lit< tt))
 
     -- locals: the result, the book
     body : (C : Calls 𝓤 H) (Λ : Loops 𝓤 H) → Is (Lent κ) book (slice book ∷ []) → ent 𝓤 Entry (WpFn 𝓤 H C Λ code.function (slice book ∷ []) Exit)

@@ -46,9 +46,10 @@ slice-aggregate-fill-report-2 c = search needs
 fill-report-requires : tie.Need-fill-report-requires
 fill-report-requires c κs =
     let start = c .before .before .before .before .before .before .before .before .before .before .before .before .before .before .before .before .before .before .before .before .before .before .before .before in
-    let all = c .before .before .before .before .before .before .before .before .before .before .before .before .before .before .load .ensures .all _ (c .before .before .before .before .before .before .before .curved .given .1) in
-    let sized = all-sized _ (start .args .tier1 .0) (start .args .report .now) (start .args .ledger .now) (start .pre .1 .1) _ _ all in
-    let bounds = bounds-hold _ (start .args .tier1 .0) (start .args .report .now) (start .args .ledger .now) (start .pre .1 .1) _ _ all in
+    let loads = c .before .before .before .before .before .before .before .before .before .before .before .before .before .before .load .ensures in
+    let all = loads .all _ (c .before .before .before .before .before .before .before .curved .given .1) in
+    let sized = all-sized _ (start .args .tier1 .0) (start .args .report .now) (start .args .ledger .now) (start .pre .1 .1) _ _ (loads .arrays) all in
+    let bounds = bounds-hold _ (start .args .tier1 .0) (start .args .report .now) (start .args .ledger .now) (start .pre .1 .1) _ _ (loads .arrays) all in
     ((sized .ledger-long, sized .rates-long, sized .addOns-long, start .pre .1 .0), ((start .pre .0, c .before .before .before .before .before .table .ensures), bounds))
 
 same-length : tie.Need-same-length
@@ -69,8 +70,9 @@ same-length-3 c = search needs
 returns-2 : tie.Need-returns-2
 returns-2 c =
     let start = c .before .before .before .before .before .before .before .before .before .before .before .before .before .before .before .before .before .before .before .before .before .before .before .before .before .before in
-    let all = c .before .before .before .before .before .before .before .before .before .before .before .before .before .before .before .before .load .ensures .all _ (c .before .before .before .before .before .before .before .before .before .curved .given .1) in
-    rw (c .before .fill-report .ensures) (answers-reported _ _ _ _ (start .pre .1 .1) _ _ all (start .pre .1 .0))
+    let loads = c .before .before .before .before .before .before .before .before .before .before .before .before .before .before .before .before .load .ensures in
+    let all = loads .all _ (c .before .before .before .before .before .before .before .before .before .curved .given .1) in
+    rw (c .before .fill-report .ensures) (answers-reported _ _ _ _ (start .pre .1 .1) _ _ (loads .arrays) all (start .pre .1 .0))
 
 pub assess-records-spec : {M : Type 1} → statement M
 assess-records-spec =
