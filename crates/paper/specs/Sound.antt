@@ -51,7 +51,8 @@ SoundFlows (single side term amount) = Between 1 2 side × SoundTerm term × Bet
 SoundFlows (coupons side period count coupon principal) =
     Between 1 2 side × (badPeriod period ≡ false) × Counted period count × Between 0 billion coupon × Between 0 billion principal
 SoundFlows (floating side reset principal coupon) = Between 1 2 side × SoundTerm reset × Between 0 billion principal × Between 0 billion coupon
-SoundFlows (deposit category whole core) = Between 1 3 category × Between 0 billion whole × Amounts core × (coreAboveCap category whole core ≡ false) × (coreTooLong category core ≡ false)
+SoundFlows (deposit category whole core) =
+    Between 1 3 category × Between 0 billion whole × Amounts core × (coreAboveCap category whole core ≡ false) × (coreTooLong category core ≡ false)
 SoundFlows (loan share principals interests) =
     Between 0 10000 share × Amounts principals × Amounts interests × ((k : ℕ) → k < buckets → interestAlone principals interests k ≡ false)
     × (sumOf principals + sumOf interests ≤ billion)
