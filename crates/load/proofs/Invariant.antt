@@ -38,29 +38,27 @@ pub begun : (book : List ℕ) (a : Arrays) → a ≡ arraysOf [] → Walking boo
 unfolding walk keptIn
 begun book a e = record { kept = []; fuel = length book; more = omega arith; same = refl; ends-with = refl; arrays = e; masks = masks-none; good = good-none }
 
--- ---- a turn of the paper's walk
+-- ---- a turn of the paper's walk, and of what it keeps
+
+-- what it comes to after what was read
+module _ (fuel : ℕ) (book : List ℕ) (at : ℕ) (kept : List Record) where
+  abbrev walks-after : Checked Record → Checked (List Record)
+  walks-after x = x >>= (λ r. walkFrom currencies (pred fuel) book (nextAt book at) (kept ++ (r ∷ [])))
+
+  abbrev keeps-after : Checked Record → List Record
+  keeps-after x = orElse kept x (λ r. keptFrom (pred fuel) book (nextAt book at) (kept ++ (r ∷ [])))
 
 turn : (fuel : ℕ) (book : List ℕ) (at : ℕ) (kept : List Record) → 0 < fuel → at < length book
-    → walkFrom currencies fuel book at kept ≡ (recordAt currencies (soFar kept) book at >>= (λ r. walkFrom currencies (pred fuel) book (nextAt book at) (kept ++ (r ∷ []))))
-unfolding walkFrom
+    → (walkFrom currencies fuel book at kept ≡ walks-after fuel book at kept (recordAt currencies (soFar kept) book at))
+    × (keptFrom fuel book at kept ≡ keeps-after fuel book at kept (recordAt currencies (soFar kept) book at))
+unfolding walkFrom keptFrom
 turn zero book at kept f l = absurd (omega arith)
-turn (suc fuel) book at kept f l = rw (lt-leb (length book) at l)
+turn (suc fuel) book at kept f l = (rw (lt-leb (length book) at l), rw (lt-leb (length book) at l))
 
-over : (fuel : ℕ) (book : List ℕ) (at : ℕ) (kept : List Record) → length book ≤ at → walkFrom currencies fuel book at kept ≡ accepted kept
-unfolding walkFrom
-over zero book at kept l = refl
-over (suc fuel) book at kept l = rw (le-leb (length book) at l)
-
-turn-kept : (fuel : ℕ) (book : List ℕ) (at : ℕ) (kept : List Record) → 0 < fuel → at < length book
-    → keptFrom fuel book at kept ≡ orElse kept (recordAt currencies (soFar kept) book at) (λ r. keptFrom (pred fuel) book (nextAt book at) (kept ++ (r ∷ [])))
-unfolding keptFrom
-turn-kept zero book at kept f l = absurd (omega arith)
-turn-kept (suc fuel) book at kept f l = rw (lt-leb (length book) at l)
-
-over-kept : (fuel : ℕ) (book : List ℕ) (at : ℕ) (kept : List Record) → length book ≤ at → keptFrom fuel book at kept ≡ kept
-unfolding keptFrom
-over-kept zero book at kept l = refl
-over-kept (suc fuel) book at kept l = rw (le-leb (length book) at l)
+over : (fuel : ℕ) (book : List ℕ) (at : ℕ) (kept : List Record) → length book ≤ at → (walkFrom currencies fuel book at kept ≡ accepted kept) × (keptFrom fuel book at kept ≡ kept)
+unfolding walkFrom keptFrom
+over zero book at kept l = (refl, refl)
+over (suc fuel) book at kept l = (rw (le-leb (length book) at l), rw (le-leb (length book) at l))
 
 module _ (book : List ℕ) (a : Arrays) (at : ℕ) (m : Masks) (w : Walking book a at m) where
   pub holds : Holding m a
@@ -83,36 +81,30 @@ module _ (book : List ℕ) (a : Arrays) (at : ℕ) (m : Masks) (w : Walking book
   -- at the end of the book
   module _ (l : length book ≤ at) where
     pub all-of-them : keptIn book ≡ w .kept
-    all-of-them = sym (w .ends-with) ∙ over-kept (w .fuel) book at (w .kept) l
+    all-of-them = sym (w .ends-with) ∙ over (w .fuel) book at (w .kept) l .1
 
     pub ended : walk currencies book ≡ accepted (keptIn book)
-    ended = sym (w .same) ∙ over (w .fuel) book at (w .kept) l ∙ ap accepted (sym all-of-them)
+    ended = sym (w .same) ∙ over (w .fuel) book at (w .kept) l .0 ∙ ap accepted (sym all-of-them)
 
   -- a record stands here: the rest of the paper's walk, by what was read
   module _ (l : at < length book) where
     abbrev read : Checked Record
     read = recordAt currencies before book at
 
-    goes : (x : Checked Record) → read ≡ x → (x >>= (λ r. walkFrom currencies (pred (w .fuel)) book (nextAt book at) (w .kept ++ (r ∷ [])))) ≡ walk currencies book
+    goes : (x : Checked Record) → read ≡ x → (walks-after (w .fuel) book at (w .kept) x ≡ walk currencies book) × (keeps-after (w .fuel) book at (w .kept) x ≡ keptIn book)
     goes x e =
-        ap (λ (y : Checked Record). y >>= (λ r. walkFrom currencies (pred (w .fuel)) book (nextAt book at) (w .kept ++ (r ∷ [])))) (sym e ∙ here)
-        ∙ sym (turn (w .fuel) book at (w .kept) (omega (arith, w .more)) l)
-        ∙ w .same
-
-    goes-kept : (x : Checked Record) → read ≡ x → orElse (w .kept) x (λ r. keptFrom (pred (w .fuel)) book (nextAt book at) (w .kept ++ (r ∷ []))) ≡ keptIn book
-    goes-kept x e =
-        ap (λ (y : Checked Record). orElse (w .kept) y (λ r. keptFrom (pred (w .fuel)) book (nextAt book at) (w .kept ++ (r ∷ [])))) (sym e ∙ here)
-        ∙ sym (turn-kept (w .fuel) book at (w .kept) (omega (arith, w .more)) l)
-        ∙ w .ends-with
+        let both = turn (w .fuel) book at (w .kept) (omega (arith, w .more)) l in
+        let same = sym e ∙ here in
+        (ap (walks-after (w .fuel) book at (w .kept)) same ∙ sym (both .0) ∙ w .same, ap (keeps-after (w .fuel) book at (w .kept)) same ∙ sym (both .1) ∙ w .ends-with)
 
     module _ (q : Refusal) (place : ℕ) (e : read ≡ refused q place) where
       pub stops : walk currencies book ≡ refused q place
       unfolding _>>=_
-      stops = sym (goes (refused q place) e)
+      stops = sym (goes (refused q place) e .0)
 
       -- the arrays are as they were
       pub stops-with : a ≡ arraysOf (keptIn book)
-      stops-with = w .arrays ∙ ap arraysOf (goes-kept (refused q place) e)
+      stops-with = w .arrays ∙ ap arraysOf (goes (refused q place) e .1)
 
     pub takes : (r : Record) (a' : Arrays) → read ≡ accepted r → a' ≡ withRecord r a → Walking book a' (nextAt book at) (marked r m)
     unfolding _>>=_ nextAt
@@ -123,8 +115,8 @@ module _ (book : List ℕ) (a : Arrays) (at : ℕ) (m : Masks) (w : Walking book
           kept = w .kept ++ (r ∷ []);
           fuel = pred (w .fuel);
           more = omega (arith, sub-one (w .fuel), w .more);
-          same = goes (accepted r) e;
-          ends-with = goes-kept (accepted r) e;
+          same = goes (accepted r) e .0;
+          ends-with = goes (accepted r) e .1;
           arrays = taken ∙ ap (withRecord r) (w .arrays) ∙ sym (arrays-more (w .kept) r (c .from) (c .to) (sound-fresh (curved (w .kept)) r (p .sound)));
           masks = masks-more m (w .kept) r (c .from) (c .to) (w .masks);
           good = good-more r (w .good) p;

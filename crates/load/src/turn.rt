@@ -108,7 +108,7 @@ fn take_parts(
     )
 }
 
-// A whole body of a known kind.
+// A whole body of a known kind. A curve and a position go on apart, so that no record pays for choosing its mask.
 fn take_record(
     kind: u8,
     body: &[u8],
@@ -121,19 +121,17 @@ fn take_record(
     sizes: &mut [u64],
     options: &mut [u64],
 ) -> Step
-    requires { ⌜ (length (now body) ≡ bodyLength kind) × (unknownKind kind ≡ false) ⌝ }
-    requires { ⌜ Holding masks (lent ledger rates addons sizes options) ⌝ }
+    requires { ⌜ (length (now body) ≡ bodyLength kind) × (unknownKind kind ≡ false) × Holding masks (lent ledger rates addons sizes options) ⌝ }
     ensures { λ r. ⌜ StepsOver kind (now (body .entry)) at next masks (before ledger rates addons sizes options) r (after ledger rates addons sizes options) ⌝ }
 {
     let read = currency_at(body, 0);
     let Field::Value(currency) = read else {
         return stopped(Walked::Refused(placed(read.fault(), at)));
     };
-    let curved = masks.curved;
     match take_parts(
         kind,
         currency,
-        curved,
+        masks.curved,
         body,
         ledger,
         rates,
@@ -143,7 +141,6 @@ fn take_record(
     ) {
         Taken::Refused(fault) => stopped(Walked::Refused(placed(fault, at))),
         Taken::Done => {
-            // A curve and a position go on apart, so that no record pays for choosing its mask.
             if curve_kind(kind) {
                 return went_on(next, marked(masks, true, currency));
             }
@@ -168,9 +165,8 @@ pub fn turn<'b, 'a>(
     requires { ⌜ (found ≡ standsAt (now book) at) × Holding (masksAs used curved) (lent ledger rates addons sizes options) ⌝ }
     ensures { λ r. ⌜ Turns (now (book .entry)) at (masksAs used curved) (before ledger rates addons sizes options) r (after ledger rates addons sizes options) ⌝ }
 {
-    let masks = Masks { used, curved };
     match found {
-        Found::End => stopped(Walked::All(masks)),
+        Found::End => stopped(Walked::All(Masks { used, curved })),
         Found::UnknownKind => stopped(Walked::Refused(Fault {
             cause: Refusal::UnknownKind,
             place: at,
@@ -184,7 +180,7 @@ pub fn turn<'b, 'a>(
             &book[start..next],
             at,
             next,
-            masks,
+            Masks { used, curved },
             ledger,
             rates,
             addons,

@@ -32,7 +32,7 @@ module _ (c : tie.After-known-told) where
   range = known-of (currency-known body 0 currencies) currency first
 
 currency-at-requires : tie.Need-currency-at-requires
-currency-at-requires c κs = let s = c .before .before .before in omega (arith, s .pre .0 .0, known-long (s .args .kind) (s .pre .0 .1))
+currency-at-requires c κs = let s = c .before .before .before in omega (arith, s .pre .0, known-long (s .args .kind) (s .pre .1))
 
 enum-known-read : tie.Need-enum-known-read
 enum-known-read c = search needs
@@ -53,13 +53,13 @@ returns : tie.Need-returns
 returns c =
     let s = c .before .before .before .before .before .before .before .before .before in
     rw (c .stopped .ensures, c .before .placed .ensures)
-    (stepped-bad _ (s .args .kind) (s .args .at) _ 0 _ _ _ (s .pre .0 .1) _ (bad (c .before .before .before .before .before .currency-at .ensures) (c .before .before .before .enum-told .given .1) (c .before .before .fault .ensures)))
+    (stepped-bad _ (s .args .kind) (s .args .at) _ 0 _ _ _ (s .pre .1) _ (bad (c .before .before .before .before .before .currency-at .ensures) (c .before .before .before .enum-told .given .1) (c .before .before .fault .ensures)))
 
 take-parts-requires : tie.Need-take-parts-requires
 take-parts-requires c κs =
     let w = c .before .before .before .before .before in
     let s = w .before .before .before .before .before .before .before in
-    ((record { long = s .pre .0 .0; first = first w }, range w .from, range w .to), curves-hold (s .pre .1))
+    ((record { long = s .pre .0; first = first w }, range w .from, range w .to), curves-hold (s .pre .2))
 
 enum-known-fault : tie.Need-enum-known-fault
 enum-known-fault c = search needs
@@ -103,7 +103,7 @@ returns-2 c =
     let s = d .before .before .before .before .before .before .before .before .before .before .before .before .before .before .before .before .before .before .before .before .before .before .before in
     let w = d .before .before .before .before .before .before .before .before .before .before .before .before .before .before .before .before in
     rw (c .went-on .ensures)
-    (stepped-done _ (s .args .kind) (s .args .at) _ (currency w) _ _ _ (s .pre .0 .1) (first w) (d .before .before .before .before .before .before .before .before .before .before .take-parts .ensures) (d .before .enum-told2 .given .1)
+    (stepped-done _ (s .args .kind) (s .args .at) _ (currency w) _ _ _ (s .pre .1) (first w) (d .before .before .before .before .before .before .before .before .before .before .take-parts .ensures) (d .before .enum-told2 .given .1)
     (c .before .marked .ensures ∙ ap (λ (b : Bool). markedBy b (currency w) (s .args .masks)) (sym (c .before .before .if1 .taken) ∙ d .curve-kind .ensures)))
 
 marked-requires-2 : tie.Need-marked-requires-2
@@ -131,7 +131,7 @@ returns-3 : tie.Need-returns-3
 returns-3 c =
     let s = c .before .before .before .before .before .before .before .before .before .before .before .before .before .before .before .before .before .before .before .before .before .before .before .before .before in
     rw (c .stopped2 .ensures, c .before .placed2 .ensures)
-    (stepped-refused _ (s .args .kind) (s .args .at) _ 0 _ _ _ (s .pre .0 .1) _ (c .before .before .before .before .before .before .before .before .before .before .before .before .take-parts .ensures) (c .before .before .before .fault2 .given .1))
+    (stepped-refused _ (s .args .kind) (s .args .at) _ 0 _ _ _ (s .pre .1) _ (c .before .before .before .before .before .before .before .before .before .before .before .before .take-parts .ensures) (c .before .before .before .fault2 .given .1))
 
 same-length-11 : tie.Need-same-length-11
 same-length-11 c = search needs
@@ -154,7 +154,7 @@ returns-4 c =
     let s = d .before .before .before .before .before .before .before .before .before .before .before .before .before .before .before .before .before .before .before .before .before .before .before in
     let w = d .before .before .before .before .before .before .before .before .before .before .before .before .before .before .before .before in
     rw (c .went-on2 .ensures)
-    (stepped-done _ (s .args .kind) (s .args .at) _ (currency w) _ _ _ (s .pre .0 .1) (first w) (d .before .before .before .before .before .before .before .before .before .before .take-parts .ensures) (d .before .enum-told2 .given .1)
+    (stepped-done _ (s .args .kind) (s .args .at) _ (currency w) _ _ _ (s .pre .1) (first w) (d .before .before .before .before .before .before .before .before .before .before .take-parts .ensures) (d .before .enum-told2 .given .1)
     (c .before .marked2 .ensures ∙ ap (λ (b : Bool). markedBy b (currency w) (s .args .masks)) (sym (c .before .before .if1 .left) ∙ d .curve-kind .ensures)))
 
 pub take-record-spec : {M : Type 1} → statement M

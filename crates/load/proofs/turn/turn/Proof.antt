@@ -41,7 +41,7 @@ part-take-record-end : tie.Need-part-take-record-end
 part-take-record-end c = lies c .ends
 
 take-record-requires : tie.Need-take-record-requires
-take-record-requires c κs = let w = c .before .before .before .before .before .before in ((lies w .long, lies w .known), w .before .before .before .before .before .before .pre .1)
+take-record-requires c κs = let w = c .before .before .before .before .before .before in (lies w .long, lies w .known, w .before .before .before .before .before .before .pre .1)
 
 returns : tie.Need-returns
 returns c = rw (c .stopped .ensures) (turn-end _ _ _ _ _ (sym (c .before .enum-told .given .1) ∙ c .before .before .before .before .before .before .pre .0))

@@ -40,6 +40,7 @@ use denote.Triple.Spec.{Meets, tripleOf}
 use denote.Triple.Table.{entered, cited}
 use denote.Triple.Walked.{says, needs, Stays, stay-none-slice, stay-slice as stays, walkOf, goes-none-slice, goes-slice, Walks as WalksBy, ends-at, walked, walk-meets}
 use denote.Exit.{yes}
+use Rattle.paper.specs.Records.{currencies}
 use Rattle.arrays.specs.Arrays.{Arrays, arraysOf, Sized}
 use Rattle.arrays.specs.Lent.{lent}
 use Rattle.reader.proofs.Reader.Laws as reader-laws
@@ -141,7 +142,7 @@ module _ {M : Type 1} (𝓤 : URA M) (H : Heap 𝓤) (A : Atoms 𝓤) (W : Given
       abbrev begins : Going (now book)
       begins = record { at = 0; used = 0; curved = 0; arrays = start; fits = lit< tt; walking = begun (now book) start empty }
 
-      sized : (s : Going (now book)) → Sized 8 (s .arrays)
+      sized : (s : Going (now book)) → Sized currencies (s .arrays)
       sized s = holds (now book) (s .arrays) (s .at) (masksAs (s .used) (s .curved)) (s .walking) .sized
 
       module _ (bs : Addresses (code.function .locals)) where
