@@ -1,7 +1,4 @@
--- a currency's parts, put back
-pub mod Lending
--- a turn of the walk, its invariant, and its end
-pub mod TurnLaws
+-- the walk's invariant, and its end
 pub mod Invariant
 pub mod WalkLaws
 -- the walk by hand: slices lent again for a call, a function's locals, and the calls

@@ -15,7 +15,7 @@ use Rattle.arrays.specs.declared.masks.Masks.{Masks}
 use Rattle.arrays.specs.Masks.{lowestMissing}
 use Rattle.arrays.specs.Arrays.{Arrays, arraysOf}
 use Rattle.arrays.proofs.Sets.{MasksOf, missing-found, missing-none}
-use Rattle.load.specs.declared.turn.Walked.the-variants as walked
+use Rattle.turn.specs.declared.Walked.the-variants as walked
 use Rattle.load.specs.declared.Loaded.the-variants as loaded
 use Rattle.load.specs.Walk.{keptIn, AllKept, Walks}
 use Rattle.load.specs.Load.{ofRecords, Loads}

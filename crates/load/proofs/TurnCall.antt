@@ -41,14 +41,14 @@ use Rattle.reader.specs.declared.Found.{Found}
 use Rattle.reader.specs.Reader.{standsAt}
 use Rattle.reader.proofs.Found as found
 use Rattle.reader.proofs.ReaderLogic.{slice, OwnsBook, book-twice}
-use Rattle.load.specs.declared.turn.Step.{Step}
-use Rattle.load.specs.Step.{masksAs, Turns}
+use Rattle.turn.specs.declared.Step.{Step}
+use Rattle.turn.specs.Step.{masksAs, Turns}
 use Rattle.load.proofs.Invariant.{Walking, holds}
 use Rattle.load.proofs.Loans.{Loan, Lists, Names, refs, values, held, tokens, lent-all, kept-all, lends-all, backs-all}
-use Rattle.load.proofs.turn.Step as step
-use Rattle.load.proofs.turn.Step.Laws as step-laws
-use Rattle.load.proofs.turn.turn as turn
-use Rattle.load.proofs.turn.turn.Symbol.{name as #turn}
+use Rattle.turn.proofs.Step as step
+use Rattle.turn.proofs.Step.Laws as step-laws
+use Rattle.turn.proofs.turn as turn
+use Rattle.turn.proofs.turn.Symbol.{name as #turn}
 use Rattle.load.proofs.walk.walk as walk
 
 -- the walk between two turns

@@ -15,9 +15,9 @@ use Rattle.paper.specs.Records.{Record, currencies}
 use Rattle.paper.specs.Book.{recordAt, nextAt}
 use Rattle.arrays.specs.declared.masks.Masks.{Masks}
 use Rattle.arrays.specs.Arrays.{Arrays, arraysOf, Sized}
-use Rattle.load.specs.declared.turn.Walked.the-variants.{All, Refused}
-use Rattle.load.specs.declared.turn.Step.{Step}
-use Rattle.load.specs.Step.{masksAs, tested, Turned, Turns}
+use Rattle.turn.specs.declared.Walked.the-variants.{All, Refused}
+use Rattle.turn.specs.declared.Step.{Step}
+use Rattle.turn.specs.Step.{masksAs, tested, Turned, Turns}
 use Rattle.load.specs.Walk.{AllKept, Walks}
 use Rattle.load.proofs.Invariant.{Walking, all-of-them, ended, stops, stops-with, takes}
 

@@ -12,8 +12,8 @@ use Rattle.paper.specs.Book.{recordAt, nextAt, walk}
 use Rattle.arrays.specs.declared.masks.Masks.{Masks}
 use Rattle.arrays.specs.Masks.{MaskOf}
 use Rattle.arrays.specs.Arrays.{Arrays, arraysOf}
-use Rattle.load.specs.declared.turn.Walked.{Walked}
-use Rattle.load.specs.declared.turn.Walked.the-variants.{All, Refused}
+use Rattle.turn.specs.declared.Walked.{Walked}
+use Rattle.turn.specs.declared.Walked.the-variants.{All, Refused}
 
 -- a refused record ends the walk with the records kept before it
 abbrev pub orElse : List Record → Checked Record → (Record → List Record) → List Record

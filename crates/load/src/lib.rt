@@ -11,7 +11,6 @@ use paper::Refusal;
 use turn::Walked;
 use walk::walk;
 
-mod turn;
 mod walk;
 
 // The records are kept, and these currencies have a curve, as a mask; or the book is turned down for a cause at a place.

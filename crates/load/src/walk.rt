@@ -4,11 +4,11 @@ ghost use mathlib.Core.Path.{_≡_};
 ghost use Rattle.arrays.specs.Arrays.{arraysOf};
 ghost use Rattle.arrays.specs.Lent.{lent, after};
 ghost use Rattle.load.specs.Walk.{Walks};
-use crate::turn::Walked;
-use crate::turn::turn;
 use reader::moved;
 use reader::new;
 use reader::next;
+use turn::Walked;
+use turn::turn;
 
 // The masks are two numbers here and no struct, so that each has a register of its own.
 pub fn walk(

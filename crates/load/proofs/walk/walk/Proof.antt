@@ -53,8 +53,8 @@ use Rattle.reader.proofs.next.Symbol as next-symbol
 use Rattle.reader.proofs.next.Met as next-proved
 use Rattle.reader.proofs.moved.Symbol as moved-symbol
 use Rattle.reader.proofs.moved.Met as moved-proved
-use Rattle.load.specs.declared.turn.Walked.{Walked}
-use Rattle.load.specs.Step.{masksAs}
+use Rattle.turn.specs.declared.Walked.{Walked}
+use Rattle.turn.specs.Step.{masksAs}
 use Rattle.load.specs.Walk.{Walks}
 use Rattle.load.proofs.Invariant.{begun, holds}
 use Rattle.load.proofs.WalkLaws.{walks-on, walks-off, AsLong, as-long}
@@ -62,12 +62,12 @@ use Rattle.load.proofs.Loans.{values, held, tokens}
 use Rattle.load.proofs.Locals.{Addresses, envAt, locals, alloc-all, free-all}
 use Rattle.load.proofs.ReaderCalls.{New, Next, Moved, reader-at, makes-reader, asks-reader, moves-reader}
 use Rattle.load.proofs.TurnCall.{Going, step-value, Turn, loans, lists, takes-turn}
-use Rattle.load.proofs.turn.Step as step
-use Rattle.load.proofs.turn.Step.Laws as step-laws
-use Rattle.load.proofs.turn.Walked as answer
-use Rattle.load.proofs.turn.Walked.Laws as answer-laws
-use Rattle.load.proofs.turn.turn.Symbol as turn-symbol
-use Rattle.load.proofs.turn.turn.Met as turn-proved
+use Rattle.turn.proofs.Step as step
+use Rattle.turn.proofs.Step.Laws as step-laws
+use Rattle.turn.proofs.Walked as answer
+use Rattle.turn.proofs.Walked.Laws as answer-laws
+use Rattle.turn.proofs.turn.Symbol as turn-symbol
+use Rattle.turn.proofs.turn.Met as turn-proved
 use Rattle.load.proofs.walk.walk.Key.{name as #walk}
 use Rattle.load.proofs.walk.walk as walk
 use Rattle.load.proofs.walk.walk.Statement as stated
@@ -293,4 +293,4 @@ walk-spec 𝓤 H 𝓜 𝓖 𝓡 =
     (cited 𝓤 H (New 𝓤 H (𝓖 .A) (𝓜 .mem) (𝓡 .run)) 𝓜 𝓡 code.env new-symbol.name new-symbol.routine code.calls-reader·new (new-proved.met 𝓤 H 𝓜 𝓖 𝓡))
     (cited 𝓤 H (Next 𝓤 H (𝓖 .A) (𝓜 .mem) (𝓡 .run)) 𝓜 𝓡 code.env next-symbol.name next-symbol.routine code.calls-reader·next (next-proved.met 𝓤 H 𝓜 𝓖 𝓡))
     (cited 𝓤 H (Moved 𝓤 H (𝓖 .A) (𝓜 .mem) (𝓡 .run)) 𝓜 𝓡 code.env moved-symbol.name moved-symbol.routine code.calls-reader·moved (moved-proved.met 𝓤 H 𝓜 𝓖 𝓡))
-    (cited 𝓤 H (Turn 𝓤 H (𝓖 .A) (𝓜 .mem) (𝓡 .run)) 𝓜 𝓡 code.env turn-symbol.name turn-symbol.routine code.calls-load·turn·turn (turn-proved.met 𝓤 H 𝓜 𝓖 𝓡)))
+    (cited 𝓤 H (Turn 𝓤 H (𝓖 .A) (𝓜 .mem) (𝓡 .run)) 𝓜 𝓡 code.env turn-symbol.name turn-symbol.routine code.calls-turn·turn (turn-proved.met 𝓤 H 𝓜 𝓖 𝓡)))

@@ -13,9 +13,9 @@ use Rattle.paper.proofs.Checks.{known-of}
 use Rattle.paper.proofs.Ranges.{currency-known}
 use Rattle.arrays.specs.Masks.{markedBy}
 use Rattle.fields.proofs.Reading.{value, bad}
-use Rattle.load.proofs.TurnLaws.{known-long, curves-hold, stepped-bad, stepped-refused, stepped-done}
-use Rattle.load.proofs.turn.take_record.Statement.{statement}
-use Rattle.load.proofs.turn.take_record.Tie as tie
+use Rattle.turn.proofs.TurnLaws.{known-long, curves-hold, stepped-bad, stepped-refused, stepped-done}
+use Rattle.turn.proofs.take_record.Statement.{statement}
+use Rattle.turn.proofs.take_record.Tie as tie
 
 -- what is known once the currency has been read
 module _ (c : tie.After-known-told) where

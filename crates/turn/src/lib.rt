@@ -10,7 +10,7 @@ ghost use Rattle.arrays.specs.Arrays.{Holding};
 ghost use Rattle.arrays.specs.Lent.{lent, before, after};
 ghost use Rattle.record.specs.Answers.{Body};
 ghost use Rattle.reader.specs.Reader.{standsAt};
-ghost use Rattle.load.specs.Step.{TakesRecord, StepsOver, Turns, faultAt, masksAs, onTo, stopsWith};
+ghost use Rattle.turn.specs.Step.{TakesRecord, StepsOver, Turns, faultAt, masksAs, onTo, stopsWith};
 use arrays::masks::Masks;
 use arrays::masks::has_curve;
 use arrays::masks::marked;

@@ -16,9 +16,9 @@ use Rattle.arrays.specs.Rooms.{soFarBy}
 use Rattle.arrays.specs.Arrays.{Arrays, withRecord}
 use Rattle.posting.specs.declared.Taken.{Taken}
 use Rattle.posting.specs.Answers.{takenOf, into}
-use Rattle.load.specs.declared.turn.Walked.{Walked}
-use Rattle.load.specs.declared.turn.Walked.the-variants.{All, Refused}
-use Rattle.load.specs.declared.turn.Step.{Step}
+use Rattle.turn.specs.declared.Walked.{Walked}
+use Rattle.turn.specs.declared.Walked.the-variants.{All, Refused}
+use Rattle.turn.specs.declared.Step.{Step}
 
 -- ---- a body, in the arrays
 

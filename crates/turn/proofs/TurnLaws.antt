@@ -24,12 +24,12 @@ use Rattle.arrays.specs.Arrays.{Arrays, Holding}
 use Rattle.posting.specs.declared.Taken.{Taken}
 use Rattle.posting.specs.declared.Taken.the-variants as taken
 use Rattle.posting.specs.Answers.{takenOf}
-use Rattle.load.specs.declared.turn.Walked.the-variants.{All}
-use Rattle.load.specs.declared.turn.Step.{Step}
+use Rattle.turn.specs.declared.Walked.the-variants.{All}
+use Rattle.turn.specs.declared.Step.{Step}
 use Rattle.reader.specs.declared.Found.{Found}
 use Rattle.reader.specs.declared.Found.the-variants as found
 use Rattle.reader.specs.Reader.{standsAt}
-use Rattle.load.specs.Step.{RecordTaken, faultAt, onTo, stopsWith, refusedFor, Stepped, Turned}
+use Rattle.turn.specs.Step.{RecordTaken, faultAt, onTo, stopsWith, refusedFor, Stepped, Turned}
 
 -- ---- an answer of the reader, back to the tests
 

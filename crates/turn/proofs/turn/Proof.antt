@@ -1,9 +1,9 @@
 -- `turn`: the four answers of the reader.
 use mathlib.Core.Path.{sym, _∙_}
 use borrow.Author.Needs.{needs}
-use Rattle.load.proofs.TurnLaws.{turn-end, turn-unknown, turn-cut, turn-record, InBook, in-book}
-use Rattle.load.proofs.turn.turn.Statement.{statement}
-use Rattle.load.proofs.turn.turn.Tie as tie
+use Rattle.turn.proofs.TurnLaws.{turn-end, turn-unknown, turn-cut, turn-record, InBook, in-book}
+use Rattle.turn.proofs.turn.Statement.{statement}
+use Rattle.turn.proofs.turn.Tie as tie
 
 -- where the record lies
 module _ (c : tie.After-known-told) where
