@@ -8,8 +8,8 @@ ghost use Rattle.paper.specs.Ladder.{buckets};
 ghost use Rattle.fields.specs.Answers.{amountsFrom};
 ghost use Rattle.posting.specs.Parts.{AtMost};
 use fields::bytes::four_at;
-use ladder::Thousands;
 use paper::BUCKETS;
+use scales::Thousands;
 
 // The amount of bucket k + 1.
 pub fn amount_of(body: &[u8], from: usize, k: usize) -> Thousands

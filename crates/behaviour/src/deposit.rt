@@ -15,12 +15,12 @@ ghost use Rattle.posting.specs.Parts.{AtMost, FlowParts};
 ghost use Rattle.posting.specs.Answers.{TakesFlows};
 use crate::amounts::amount_of;
 use crate::amounts::sum_from;
-use ladder::Thousands;
 use paper::BUCKETS;
 use posting::Taken;
 use posting::flows::enter_row;
 use record::deposit::DecodedDeposit;
 use record::deposit::decode_deposit;
+use scales::Thousands;
 
 fn core_row(body: &[u8], total: Thousands, row: &mut [u64])
     requires { ⌜ (length (now body) ≡ 82) × (total .0 ≤ billion) × (length (now row) ≡ buckets) ⌝ }

@@ -21,12 +21,12 @@ use crate::amounts::sum_from;
 use crate::rates::RATES;
 use crate::rates::ROWS;
 use crate::rates::rates_of;
-use ladder::Thousands;
 use paper::BUCKETS;
 use posting::Taken;
 use posting::flows::enter_rows;
 use record::loan::DecodedLoan;
 use record::loan::decode_loan;
+use scales::Thousands;
 
 // A bucket's flow, and what is outstanding after it.
 struct Step {

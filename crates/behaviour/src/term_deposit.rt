@@ -18,12 +18,12 @@ use crate::amounts::sum_from;
 use crate::rates::RATES;
 use crate::rates::ROWS;
 use crate::rates::rates_of;
-use ladder::Thousands;
 use paper::BUCKETS;
 use posting::Taken;
 use posting::flows::enter_rows;
 use record::term_deposit::DecodedTermDeposit;
 use record::term_deposit::decode_term_deposit;
+use scales::Thousands;
 
 fn moved(rate: u64, amount: Thousands) -> Thousands
     requires { ⌜ (rate ≤ wholeRate) × (amount .0 ≤ billion) ⌝ }

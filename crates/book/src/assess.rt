@@ -9,7 +9,6 @@ ghost use Rattle.load.specs.Load.{ofRecords};
 ghost use Rattle.book.specs.Assessed.{Answers, Assesses, Truthful, turnedAway};
 use crate::rooms::clear;
 use factor::table;
-use ladder::Thousands;
 use load::Loaded;
 use load::load;
 use paper::CELLS;
@@ -20,6 +19,7 @@ use paper::Fault;
 use paper::LONGEST_BOOK;
 use paper::Refusal;
 use paper::SCENARIOS;
+use scales::Thousands;
 use valuation::fill_report;
 
 // The report was written, and these currencies have a curve, as a mask; or the book was turned down for a cause at a place.

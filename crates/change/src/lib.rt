@@ -18,13 +18,13 @@ ghost use Rattle.change.specs.Lengths.{FiguresLengths, CurrencyLengths};
 ghost use Rattle.change.specs.Bounds.{BoundedRow, Bounded};
 ghost use Rattle.change.specs.Figures.{ownChanges, ownTolerances, withChanges, withTolerances};
 use ladder::Exponent;
-use ladder::Millionths;
-use ladder::SignedThousands;
-use ladder::TenThousandthYears;
-use ladder::Thousands;
 use paper::BUCKETS;
 use paper::SECTION;
 use paper::SHOCKED;
+use scales::Millionths;
+use scales::SignedThousands;
+use scales::TenThousandthYears;
+use scales::Thousands;
 use signed::magnitude;
 use signed::rounded;
 

@@ -12,9 +12,9 @@ ghost use Rattle.paper.specs.Curve.{rateChanges, shockedRate};
 ghost use Rattle.paper.specs.TurnedDown.{badShocked};
 ghost use Rattle.paper.specs.Sound.{Ranged, Listed};
 ghost use Rattle.curve.specs.Shocked.{shocksOf, curveOf, Sized, twisted, shortShares, shockedSection};
-use ladder::Millionths;
 use paper::BUCKETS;
 use paper::SCENARIOS;
+use scales::Millionths;
 use signed::rounded;
 
 // Shock sizes, in basis points.

@@ -5,7 +5,7 @@ ghost use Rattle.face.specs.Face.{Faces, withPlace};
 use book::assess::Assessed;
 use book::assess::assess;
 use book::refusal::refusal_number;
-use ladder::Thousands;
+use scales::Thousands;
 
 // A caller that lends no cell for the place is not told it.
 fn put_place(place: &mut [u64], told: u64)

@@ -16,7 +16,7 @@ use Rattle.paper.specs.Ladder.{buckets}
 use Rattle.paper.specs.Refusals.{Checked, accepted, refused}
 use Rattle.paper.specs.TurnedDown.{badAmount}
 use Rattle.paper.specs.Fields.{four, amountAt, each}
-use Rattle.ladder.specs.declared.Thousands.{Thousands}
+use Rattle.scales.specs.declared.Thousands.{Thousands}
 use Rattle.fields.specs.declared.amounts.Amounts.{Amounts}
 use Rattle.fields.specs.declared.amounts.Amounts.the-variants.{Sum, Bad}
 use Rattle.fields.specs.Answers.{thousands, amountsFrom, amountsOf}

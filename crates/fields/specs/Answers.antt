@@ -13,9 +13,9 @@ use Rattle.paper.specs.Ladder.{buckets}
 use Rattle.paper.specs.Refusals.{Checked, accepted, refused}
 use Rattle.paper.specs.TurnedDown.{badRate}
 use Rattle.paper.specs.Fields.{four, signed}
-use Rattle.ladder.specs.declared.Millionths.{Millionths}
-use Rattle.ladder.specs.declared.Thousands.{Thousands}
-use Rattle.ladder.specs.declared.SignedThousands.{SignedThousands}
+use Rattle.scales.specs.declared.Millionths.{Millionths}
+use Rattle.scales.specs.declared.Thousands.{Thousands}
+use Rattle.scales.specs.declared.SignedThousands.{SignedThousands}
 use Rattle.fields.specs.declared.Field.{Field}
 use Rattle.fields.specs.declared.Field.the-variants as natural
 use Rattle.fields.specs.declared.amounts.Amount.{Amount}

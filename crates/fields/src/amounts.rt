@@ -6,10 +6,10 @@ ghost use Rattle.paper.specs.Ladder.{buckets};
 ghost use Rattle.paper.specs.Fields.{amountAt, each};
 ghost use Rattle.fields.specs.Answers.{amountFieldOf, amountFaultIn, amountsOf, amountsFaultIn};
 use crate::bytes::four_at;
-use ladder::Thousands;
 use paper::BUCKETS;
 use paper::Fault;
 use paper::Refusal;
+use scales::Thousands;
 
 pub enum Amount {
     Value(Thousands),

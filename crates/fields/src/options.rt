@@ -6,9 +6,9 @@ ghost use Rattle.paper.specs.Fields.{optionAt};
 ghost use Rattle.fields.specs.Answers.{optionFieldOf, optionFaultIn};
 use crate::bytes::signed_at;
 use crate::outside;
-use ladder::SignedThousands;
 use paper::Fault;
 use paper::Refusal;
+use scales::SignedThousands;
 
 pub enum OptionValue {
     Value(SignedThousands),

@@ -7,10 +7,10 @@ ghost use Rattle.paper.specs.Fields.{rateAt, each};
 ghost use Rattle.fields.specs.Answers.{rateFieldOf, rateFaultIn, ratesOf, ratesSet, ratesFaultIn};
 use crate::bytes::signed_at;
 use crate::outside;
-use ladder::Millionths;
 use paper::BUCKETS;
 use paper::Fault;
 use paper::Refusal;
+use scales::Millionths;
 
 pub enum Rate {
     Value(Millionths),

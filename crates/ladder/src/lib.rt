@@ -1,35 +1,16 @@
-// The three scales, and the time ladder (01, "Time ladder"; 001, table 3).
+// The time ladder (01, "Time ladder"; 001, table 3), and the exponent that a rate and a midpoint make.
 ghost use mathlib.Core.Path.{_≡_};
 ghost use Prim.Native.Nat.{_<_, _≤_};
-ghost use lib.IntN.{pos};
 ghost use Rattle.paper.specs.Ladder.{buckets, bucketOf, midpoints};
 ghost use Rattle.paper.specs.Sound.{Ranged};
 ghost use Rattle.ladder.specs.Ends.{byEnd};
 ghost use Rattle.ladder.specs.Reach.{OnLadder, IsExponent};
 use paper::BUCKETS;
-
-// Rates.
-pub struct Millionths(pub i64);
-
-// Times.
-pub struct TenThousandthYears(pub i64);
-
-// Money that has no sign: amounts, balances, sums of magnitudes, tolerances, capital.
-pub struct Thousands(pub u64);
-
-// Money that has one: a flow of its side, the value of an option, a change.
-pub struct SignedThousands(pub i64);
+use scales::Millionths;
+use scales::TenThousandthYears;
 
 // A rate times a midpoint, in units of 10^-10. The field is private: only `of` makes one.
 pub struct Exponent(i64);
-
-impl TenThousandthYears {
-    pub fn of(count: u32) -> Self
-        ensures { λ r. ⌜ r .0 ≡ pos count ⌝ }
-    {
-        Self(count as i64)
-    }
-}
 
 impl Exponent {
     pub fn of(rate: Millionths, midpoint: TenThousandthYears) -> Self

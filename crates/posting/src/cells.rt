@@ -10,10 +10,10 @@ ghost use Rattle.paper.specs.Ladder.{buckets};
 ghost use Rattle.paper.specs.Ledger.{sectionSize};
 ghost use Rattle.arrays.specs.Slots.{plusℤ};
 ghost use Rattle.posting.specs.Parts.{AtMost, AtMostℤ, column, rowFlow, trillion};
-use ladder::SignedThousands;
-use ladder::Thousands;
 use paper::BUCKETS;
 use paper::SCENARIOS;
+use scales::SignedThousands;
+use scales::Thousands;
 
 // An asset plus, a liability minus; an option sold plus, one bought minus.
 pub fn sided(side: u32, value: SignedThousands) -> SignedThousands

@@ -10,8 +10,8 @@ use crate::Taken;
 use crate::cells::add_rows;
 use crate::over_limit;
 use crate::room::admits;
-use ladder::Thousands;
 use paper::SCENARIOS;
+use scales::Thousands;
 
 // The sum of the row that each scenario has.
 fn scenario_sums(sums: &[u64], which: &[usize], more: &mut [u64])

@@ -10,10 +10,10 @@ use book::assess::Assessed;
 use book::assess::assess;
 use book::refusal::refusal_number;
 use fields::bytes::four_at;
-use ladder::Thousands;
 use paper::CELLS;
 use paper::FIGURES;
 use paper::LONGEST_BOOK;
+use scales::Thousands;
 use text::refusal::write_refusal;
 use text::report::write_report;
 

@@ -10,7 +10,7 @@ use Rattle.paper.specs.Refusals.{Checked, accepted, refused}
 use Rattle.paper.specs.Ladder.{Term}
 use Rattle.paper.specs.Records.{Record, flows, option, curve}
 use Rattle.curve.specs.Shocked.{curveOf}
-use Rattle.ladder.specs.declared.SignedThousands.{SignedThousands}
+use Rattle.scales.specs.declared.SignedThousands.{SignedThousands}
 use Rattle.fields.specs.Answers.{thousands, signedThousands, ratesFrom}
 use Rattle.record.specs.declared.single.DecodedSingle.{DecodedSingle}
 use Rattle.record.specs.declared.single.DecodedSingle.the-variants as ofSingle

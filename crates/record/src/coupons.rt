@@ -9,8 +9,8 @@ use fields::amounts::amount_at;
 use fields::count_at;
 use fields::period_at;
 use fields::side_at;
-use ladder::Thousands;
 use paper::Fault;
+use scales::Thousands;
 
 pub struct Coupons {
     pub currency: u32,

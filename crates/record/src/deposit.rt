@@ -19,11 +19,11 @@ use fields::amounts::amount_at;
 use fields::amounts::amounts_at;
 use fields::bytes::four_at;
 use fields::category_at;
-use ladder::Thousands;
 use ladder::midpoints;
 use paper::BUCKETS;
 use paper::Fault;
 use paper::Refusal;
+use scales::Thousands;
 
 pub struct Deposit {
     pub currency: u32,

@@ -17,10 +17,10 @@ use fields::amounts::Amounts;
 use fields::amounts::amounts_at;
 use fields::bytes::four_at;
 use fields::share_at;
-use ladder::Thousands;
 use paper::BUCKETS;
 use paper::Fault;
 use paper::Refusal;
+use scales::Thousands;
 
 pub struct Loan {
     pub currency: u32,

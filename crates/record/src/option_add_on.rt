@@ -9,8 +9,8 @@ use fields::Field;
 use fields::options::OptionValue;
 use fields::options::option_at;
 use fields::side_at;
-use ladder::SignedThousands;
 use paper::Fault;
+use scales::SignedThousands;
 
 pub struct OptionAddOn {
     pub currency: u32,

@@ -9,8 +9,8 @@ use fields::amounts::amount_at;
 use fields::days_at;
 use fields::months_at;
 use fields::side_at;
-use ladder::Thousands;
 use paper::Fault;
+use scales::Thousands;
 
 pub struct Single {
     pub currency: u32,

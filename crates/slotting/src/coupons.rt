@@ -12,13 +12,13 @@ ghost use Rattle.paper.specs.Decode.{decodeCoupons};
 ghost use Rattle.record.specs.Answers.{Body};
 ghost use Rattle.posting.specs.Parts.{FlowParts};
 ghost use Rattle.posting.specs.Answers.{TakesFlows};
-use ladder::Thousands;
 use ladder::bucket_of;
 use paper::BUCKETS;
 use posting::Taken;
 use posting::flows::enter_row;
 use record::coupons::DecodedCoupons;
 use record::coupons::decode_coupons;
+use scales::Thousands;
 
 // The months by which buckets 1 to 19 end. Bucket 1 ends before the first month, and no coupon of kind 2 is past month 600.
 const MONTH_ENDS: [u32; BUCKETS] = [

@@ -3,7 +3,6 @@ ghost use Prim.Native.Nat.{_%_, _≤_};
 ghost use Rattle.paper.specs.Ladder.{buckets};
 ghost use Rattle.paper.specs.Flow.{due};
 ghost use Rattle.posting.specs.Parts.{FlowParts, Enters};
-use ladder::Thousands;
 use ladder::bucket_of;
 use paper::SCENARIOS;
 use posting::Taken;
@@ -11,6 +10,7 @@ use posting::cells::post;
 use posting::cells::sided_amount;
 use posting::over_limit;
 use posting::room::admits;
+use scales::Thousands;
 
 pub fn slot_due(
     side: u32,

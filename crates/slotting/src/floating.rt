@@ -5,10 +5,10 @@ ghost use Rattle.record.specs.Answers.{Body};
 ghost use Rattle.posting.specs.Parts.{FlowParts};
 ghost use Rattle.posting.specs.Answers.{TakesFlows};
 use crate::due::slot_due;
-use ladder::Thousands;
 use posting::Taken;
 use record::floating::DecodedFloating;
 use record::floating::decode_floating;
+use scales::Thousands;
 
 pub fn take_floating(currency: u32, body: &[u8], section: &mut [i64], sizes: &mut [u64]) -> Taken
     requires { ⌜ Body 13 currency (now body) ⌝ }

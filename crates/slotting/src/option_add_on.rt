@@ -14,7 +14,6 @@ ghost use Rattle.record.specs.Answers.{Body};
 ghost use Rattle.posting.specs.Parts.{AtMostℤ};
 ghost use Rattle.posting.specs.Answers.{TakesOption};
 ghost use Rattle.slotting.specs.Parts.{OptionParts};
-use ladder::SignedThousands;
 use paper::SHOCKED;
 use posting::Taken;
 use posting::cells::add_into;
@@ -23,6 +22,7 @@ use posting::over_limit;
 use posting::room::admits;
 use record::option_add_on::DecodedOption;
 use record::option_add_on::decode_option;
+use scales::SignedThousands;
 use signed::magnitude;
 
 fn magnitudes(values: &[i64], sizes: &mut [u64])

@@ -9,9 +9,9 @@ ghost use Rattle.arrays.specs.Rooms.{totalsBy};
 ghost use Rattle.valuation.specs.Lengths.{ReportLengths};
 ghost use Rattle.valuation.specs.Bounds.{Bounds};
 use arrays::masks::has_curve;
-use ladder::Thousands;
 use paper::CHANGES;
 use paper::CURRENCIES;
+use scales::Thousands;
 
 mod measure;
 mod report;

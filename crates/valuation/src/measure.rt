@@ -7,10 +7,10 @@ ghost use Rattle.paper.specs.Flow.{shocked};
 ghost use Rattle.paper.specs.Verdict.{scenarioSum, measure, worst};
 ghost use Rattle.arrays.specs.Rooms.{listed};
 ghost use Rattle.valuation.specs.Figures.{Figures};
-use ladder::SignedThousands;
-use ladder::Thousands;
 use paper::CURRENCIES;
 use paper::SHOCKED;
+use scales::SignedThousands;
+use scales::Thousands;
 
 // The loss, with no gain to set against it.
 fn positive(change: SignedThousands) -> Thousands

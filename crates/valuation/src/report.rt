@@ -15,10 +15,10 @@ use crate::measure::greatest_sum;
 use crate::measure::scenario_sum;
 use crate::verdict::number_of;
 use crate::verdict::verdict_of;
-use ladder::Thousands;
 use paper::CHANGES;
 use paper::FIGURES;
 use paper::SHOCKED;
+use scales::Thousands;
 
 // The six sums start where the changes end, and here the last four numbers.
 const CLOSING: usize = CHANGES + SHOCKED;

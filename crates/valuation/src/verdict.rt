@@ -4,8 +4,8 @@ ghost use Prim.Native.Nat.{_≤_};
 ghost use lib.IntN.{pos};
 ghost use Rattle.paper.specs.Verdict.{verdict, verdictNumber};
 ghost use Rattle.valuation.specs.Figures.{mostOfASum};
-use ladder::Thousands;
 use paper::Verdict;
+use scales::Thousands;
 
 // Over if 100(measure - tolerance) > 15 T, within if 100(measure + tolerance) <= 15 T: the difference may be below zero.
 pub fn verdict_of(measure: Thousands, tolerance: Thousands, tier1: Thousands) -> Verdict

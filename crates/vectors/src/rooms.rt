@@ -3,9 +3,9 @@ use crate::show::say;
 use book::assess::Assessed;
 use book::assess::assess;
 use book::refusal::refusal_number;
-use ladder::Thousands;
 use paper::CELLS;
 use paper::FIGURES;
+use scales::Thousands;
 use text::refusal::write_refusal;
 
 fn show_refusal(label: &[u8], number: u64, place: u64) {

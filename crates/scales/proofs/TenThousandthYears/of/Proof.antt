@@ -3,8 +3,8 @@ use native.Mathlib.Omega.{arith}
 use borrow.Author.Needs.{needs}
 use mir.Facts.{toZ-pos}
 use mir.Syntax.{w64}
-use Rattle.ladder.proofs.TenThousandthYears.of.Statement.{statement}
-use Rattle.ladder.proofs.TenThousandthYears.of.Tie as tie
+use Rattle.scales.proofs.TenThousandthYears.of.Statement.{statement}
+use Rattle.scales.proofs.TenThousandthYears.of.Tie as tie
 
 cast-t2 : tie.Need-cast-t2
 cast-t2 c = search needs
