@@ -3,4 +3,5 @@
 mod fields;
 mod page;
 mod records;
+mod rules;
 mod tables;
