@@ -72,3 +72,18 @@ fn a_dash_is_standard_output() {
     assert_eq!((output.status.success(), output.stdout), (true, vec![1, 2]));
     assert_eq!(files_in(&here), ["a.txt"]);
 }
+
+/// As a full disk would: the limit on the size of files ends the write half way.
+#[test]
+fn a_write_that_fails_leaves_the_old_file_and_nothing_else() {
+    let here = directory("full");
+    fs::write(here.join("a.txt"), "raw 01 02 03 04\n".repeat(1_000)).expect("a text");
+    fs::write(here.join("a.book"), "old").expect("an old book");
+    let script = "trap '' XFSZ; ulimit -f 1; exec \"$0\" make a.txt a.book";
+    let mut shell = Command::new("sh");
+    let output =
+        shell.args(["-c", script, env!("CARGO_BIN_EXE_bookkit")]).current_dir(&here).output().expect("sh runs");
+    assert_one_line(&output, 2, &["a.book: cannot be written: "]);
+    assert_eq!(fs::read(here.join("a.book")).expect("an old book"), b"old");
+    assert_eq!(files_in(&here), ["a.book", "a.txt"]);
+}

@@ -26,7 +26,7 @@ fn each_rule_has_its_number() {
         earned(&[curve.clone(), curve.clone()]),
         earned(&[curve.with("rates", 0, -50_000)]),
         earned(&[flow.with("amount", 0, 1_000_000_000), flow.with("amount", 0, 1).with("side", 0, 2)]),
-        earned(&[flow.clone()]),
+        number_of(&flow.bytes(), 1),
         number_of(&[], 0),
         number_of(&vec![0; 65_529], 1),
         Request { report_room: 57, ..Request::roomy(&[], 1) }.answer().refused().map(|(number, _)| number),
