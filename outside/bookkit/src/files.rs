@@ -72,7 +72,7 @@ fn check_replaceable(path: &Path) -> io::Result<()> {
         (_, _, true) => "a directory",
         _ => "a device, a pipe or a socket",
     };
-    Err(io::Error::other(format!("{what} is there, and only a regular file is replaced")))
+    Err(io::Error::other(format!("{what} is there, and only a regular file is replaced (- is standard output)")))
 }
 
 fn write_and_rename(path: &Path, bytes: &[u8]) -> io::Result<()> {

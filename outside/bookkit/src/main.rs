@@ -16,9 +16,10 @@ bookkit explain NUMBER      say what a refusal number means and what to look at
 bookkit help                print this
 
 BOOK, INPUT and TEXT may be - for standard input. Without OUTPUT, or where it is -, make writes to standard output.
-OUTPUT is written as a whole or not at all. Where it exists and is no regular file (a link, a device), it is left alone.
+OUTPUT is written as a whole or not at all; one that exists and is no regular file (a link, a device) is left alone.
 Books end at 65,528 bytes and inputs at 65,536, as irreport has it: what is longer is neither listed nor made.
 Status: 0 done; 1 irreport would turn it down; 2 not done. 1 and 2 come with one line of why.
+docs/format.md says what the bytes of a book and of an input are.
 
 The text form has one record to a line. # begins a comment. Fields may come in any order; none may lack.
 

@@ -1,7 +1,7 @@
 //! The worked records: their bytes, as they were worked out by hand, say what stands beside them.
 
 use crate::page::{block, file, number, section, Said};
-use reference::{step, Record, Request, Step};
+use reference::{step, Record, Request, Step, KINDS};
 
 pub fn heading(kind: u8) -> String {
     format!("### Kind {kind}: `")
@@ -57,14 +57,14 @@ fn hold_all(lines: &[Said], record: &Record) {
 
 #[test]
 fn each_worked_record_says_what_stands_beside_it() {
-    for kind in 1..=8 {
-        hold_all(&block(&heading(kind)), &worked(kind));
+    for kind in &KINDS {
+        hold_all(&block(&heading(kind.number)), &worked(kind.number));
     }
 }
 
 #[test]
 fn the_worked_records_make_a_good_book() {
-    let book: Vec<u8> = (1..=8).flat_map(|kind| worked(kind).bytes()).collect();
+    let book: Vec<u8> = KINDS.iter().flat_map(|kind| worked(kind.number).bytes()).collect();
     assert_eq!(Request::roomy(&book, 1_000_000).answer().refused(), None);
 }
 

@@ -3,7 +3,7 @@
 use crate::page::{number, table};
 use crate::records::{heading, worked};
 use reference::{
-    bucket_index, flows, rate_changes, Request, BUCKETS, CAPITAL_BYTES, CORE_CAPS, CURRENCIES, GREATEST_CAPITAL,
+    bucket_index, flows, rate_changes, Request, BUCKETS, CAPITAL_BYTES, CORE_CAPS, CURRENCIES, GREATEST_CAPITAL, KINDS,
     LAST_MONTH, LONGEST_BOOK, MIDPOINTS, SCENARIOS, UPPER_ENDS,
 };
 use std::collections::BTreeSet;
@@ -78,7 +78,7 @@ fn the_categories() {
 
 #[test]
 fn every_refusal_number_is_named() {
-    let of_fields = (1..=8).flat_map(|kind| table(&heading(kind), "Offset")).map(|row| number(&row[5]));
+    let of_fields = KINDS.iter().flat_map(|kind| table(&heading(kind.number), "Offset")).map(|row| number(&row[5]));
     let of_rules = table("## What one field alone does not show", "Refusal").into_iter().map(|row| number(&row[0]));
     let named: BTreeSet<i64> = of_fields.chain(of_rules).collect();
     assert!(named.into_iter().eq(1..=18));
