@@ -1,11 +1,21 @@
-/* The C face of `crates/book`: a slice is lent as its first element and its length. */
+/* The C face of `crates/book`: a slice is lent as its first element and its length. docs/calling.md says what the cells
+ * of report and ledger hold.
+ */
 #ifndef VORLEGAN_H
 #define VORLEGAN_H
 #include <stddef.h>
 #include <stdint.h>
 
+#ifdef __cplusplus
+extern "C" {
+#endif
+
 /* 0: the report was written; else the refusal's number. The first cell of `place`, if lent, gets its place. */
 uint32_t vorlegan_assess(const uint8_t *book, size_t book_bytes, uint64_t tier1, int64_t *report, size_t report_cells,
                          int64_t *ledger, size_t ledger_cells, uint64_t *place, size_t place_cells);
+
+#ifdef __cplusplus
+}
+#endif
 
 #endif

@@ -2,9 +2,13 @@
 
 mod explain;
 mod make;
+mod plain;
+mod recognise;
 mod show;
 mod values;
 
 pub use explain::explain;
 pub use make::{make, BadLine};
+pub use plain::{plain, quoted};
+pub use recognise::{something_else, Wanted};
 pub use show::{show_book, show_input, Listing};

@@ -2,7 +2,10 @@
 
 mod files;
 
-use bookkit::{explain, make, show_book, show_input, BadLine};
+use bookkit::{explain, make, quoted, show_book, show_input, something_else, BadLine, Wanted};
+use reference::{CAPITAL_BYTES, LONGEST_BOOK};
+use std::ffi::{OsStr, OsString};
+use std::io::Write;
 use std::process::ExitCode;
 
 const HELP: &str = "\
@@ -12,8 +15,11 @@ bookkit make TEXT [OUTPUT]  turn text into a book, or into an input of irreport 
 bookkit explain NUMBER      say what a refusal number means and what to look at
 bookkit help                print this
 
-BOOK, INPUT and TEXT may be - for standard input. Without OUTPUT, make writes to standard output.
-Status: 0 done; 1 shown, but irreport would turn it down; 2 not done. 1 and 2 come with one line of why.
+BOOK, INPUT and TEXT may be - for standard input. Without OUTPUT, or where it is -, make writes to standard output.
+OUTPUT is written as a whole or not at all; one that exists and is no regular file (a link, a device) is left alone.
+Books end at 65,528 bytes and inputs at 65,536, as irreport has it: what is longer is neither listed nor made.
+Status: 0 done; 1 irreport would turn it down; 2 not done. 1 and 2 come with one line of why.
+docs/format.md says what the bytes of a book and of an input are.
 
 The text form has one record to a line. # begins a comment. Fields may come in any order; none may lack.
 
@@ -34,64 +40,96 @@ Money is in thousands, rates in millionths, shocks in basis points, shares in hu
 raw holds bytes that make no whole record. make judges no numbers, as long as they fit: show does.
 ";
 
-/// What goes wrong: the line for standard error, and the status.
+/// Far above any text that a book of 65,528 bytes has; comments may take the rest.
+const LONGEST_TEXT: usize = 16 << 20;
+
+/// What goes wrong: the line for standard error, unless nobody listens any more, and the status.
 struct Trouble {
-    why: String,
+    why: Option<String>,
     status: u8,
 }
 
 fn not_done(why: String) -> Trouble {
-    Trouble { why, status: 2 }
+    Trouble { why: Some(why), status: 2 }
 }
 
 fn main() -> ExitCode {
-    let arguments: Vec<String> = std::env::args_os().skip(1).map(|word| word.to_string_lossy().into_owned()).collect();
-    let words: Vec<&str> = arguments.iter().map(String::as_str).collect();
-    match run(&words) {
+    let arguments: Vec<OsString> = std::env::args_os().skip(1).collect();
+    match run(&arguments) {
         Ok(()) => ExitCode::SUCCESS,
         Err(trouble) => {
-            eprintln!("bookkit: {}", trouble.why);
+            if let Some(why) = trouble.why {
+                // Where standard error is gone too, the status is all that can be said.
+                let _ = writeln!(std::io::stderr(), "bookkit: {why}");
+            }
             ExitCode::from(trouble.status)
         }
     }
 }
 
-fn run(words: &[&str]) -> Result<(), Trouble> {
-    match words {
-        ["show", "--input", path] => show(path, true),
-        ["show", path] if *path != "--input" => show(path, false),
-        ["make", text] => files::print(&made(text)?).map_err(not_done),
-        ["make", text, output] if files::same(text, output) => {
-            Err(not_done(format!("{output}: the book would take the place of its text")))
-        }
-        ["make", text, output] => files::write(output, &made(text)?).map_err(not_done),
+/// Names of files stay as they are: they need not be UTF-8.
+fn run(arguments: &[OsString]) -> Result<(), Trouble> {
+    let words: Vec<_> = arguments.iter().map(|word| word.to_string_lossy()).collect();
+    let words: Vec<&str> = words.iter().map(|word| word.as_ref()).collect();
+    match words[..] {
+        ["show", "--input", _] => show(&arguments[2], Wanted::Input),
+        ["show", path] if path != "--input" => show(&arguments[1], Wanted::Book),
+        ["make", _] => make_into(&arguments[1], OsStr::new("-")),
+        ["make", _, _] => make_into(&arguments[1], &arguments[2]),
         ["explain", number] => explained(number),
-        ["help" | "--help" | "-h"] => files::print(HELP.as_bytes()).map_err(not_done),
+        ["help" | "--help" | "-h"] => print(HELP),
         _ => Err(not_done("show [--input] FILE, make TEXT [OUTPUT], explain NUMBER or help is wanted".to_string())),
     }
 }
 
-fn show(path: &str, with_capital: bool) -> Result<(), Trouble> {
-    let bytes = files::read(path).map_err(not_done)?;
-    let listing = if with_capital { show_input(&bytes) } else { show_book(&bytes) };
-    files::print(listing.text.as_bytes()).map_err(not_done)?;
-    match listing.refusal {
-        None => Ok(()),
-        Some(refusal) => {
-            let why =
-                format!("{path}: irreport would print R {} {}: {}", refusal.number, refusal.place, refusal.because);
-            Err(Trouble { why, status: 1 })
-        }
+fn show(path: &OsStr, wanted: Wanted) -> Result<(), Trouble> {
+    let name = files::name(path);
+    let (most, show): (usize, fn(&[u8]) -> bookkit::Listing) = match wanted {
+        Wanted::Input => (LONGEST_BOOK + CAPITAL_BYTES, show_input),
+        _ => (LONGEST_BOOK, show_book),
+    };
+    let bytes = read(path, wanted, most)?;
+    if bytes.len() > most {
+        let why = format!("{name}: irreport would print R 17 0: there are more than {most} bytes; none are listed");
+        return Err(Trouble { why: Some(why), status: 1 });
+    }
+    let listing = show(&bytes);
+    let heard = files::print(listing.text.as_bytes()).map_err(not_done)?;
+    let Some(refusal) = listing.refusal else { return Ok(()) };
+    let why = format!("{name}: irreport would print R {} {}: {}", refusal.number, refusal.place, refusal.because);
+    Err(Trouble { why: heard.then_some(why), status: 1 })
+}
+
+/// The bytes of a file, which must not plainly be something else than is wanted.
+fn read(path: &OsStr, wanted: Wanted, most: usize) -> Result<Vec<u8>, Trouble> {
+    let bytes = files::read(path, most).map_err(not_done)?;
+    match something_else(&bytes, wanted) {
+        None => Ok(bytes),
+        Some(what) => Err(not_done(format!("{}: {what}", files::name(path)))),
     }
 }
 
-fn made(path: &str) -> Result<Vec<u8>, Trouble> {
-    let text = files::read(path).map_err(not_done)?;
-    make(&text).map_err(|BadLine { line, why }| not_done(format!("{path}: line {line}: {why}")))
+fn make_into(path: &OsStr, output: &OsStr) -> Result<(), Trouble> {
+    let name = files::name(path);
+    if files::same(path, output) {
+        return Err(not_done(format!("{name}: the book would take the place of its text")));
+    }
+    let text = read(path, Wanted::Text, LONGEST_TEXT)?;
+    if text.len() > LONGEST_TEXT {
+        return Err(not_done(format!(
+            "{name}: there are more than {LONGEST_TEXT} bytes, too many for the text of a book"
+        )));
+    }
+    let book = make(&text).map_err(|BadLine { line, why }| not_done(format!("{name}: line {line}: {why}")))?;
+    files::write(output, &book).map_err(not_done)
 }
 
 fn explained(number: &str) -> Result<(), Trouble> {
     let text = number.parse().ok().and_then(explain);
-    let text = text.ok_or_else(|| not_done(format!("\"{number}\" is no refusal number; they are 1 to 18")))?;
-    files::print(text.as_bytes()).map_err(not_done)
+    let text = text.ok_or_else(|| not_done(format!("{} is no refusal number; they are 1 to 18", quoted(number))))?;
+    print(&text)
+}
+
+fn print(text: &str) -> Result<(), Trouble> {
+    files::print(text.as_bytes()).map(|_| ()).map_err(not_done)
 }

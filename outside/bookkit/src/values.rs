@@ -1,5 +1,6 @@
 //! How the numbers of a field stand in the text form, and how they are read back.
 
+use crate::plain::quoted;
 use reference::{Field, Item, Kind};
 
 const NIL: &str = "nil";
@@ -57,7 +58,7 @@ fn read_side(kind: &Kind, field: &Field, text: &str) -> Result<Vec<i64>, String>
     match words.iter().position(|word| *word == text) {
         Some(index) => Ok(vec![index as i64 + 1]),
         None if text.starts_with(|first: char| first.is_alphabetic()) => {
-            Err(format!("side takes {} or {}, not \"{text}\"", words[0], words[1]))
+            Err(format!("side takes {} or {}, not {}", words[0], words[1], quoted(text)))
         }
         None => Ok(vec![read_number(field, text)?]),
     }
@@ -65,10 +66,11 @@ fn read_side(kind: &Kind, field: &Field, text: &str) -> Result<Vec<i64>, String>
 
 fn read_number(field: &Field, text: &str) -> Result<i64, String> {
     let (low, high) = field.item.bounds();
-    let number: i128 = text.parse().map_err(|_| format!("{} takes a whole number, not \"{text}\"", field.name))?;
+    let wrong = |_| format!("{} takes a whole number, not {}", field.name, quoted(text));
+    let number: i128 = text.parse().map_err(wrong)?;
     match i64::try_from(number) {
         Ok(number) if (low..=high).contains(&number) => Ok(number),
-        _ => Err(format!("{} cannot hold {text}: only {low} to {high} fit", field.name)),
+        _ => Err(format!("{} cannot hold {number}: only {low} to {high} fit", field.name)),
     }
 }
 
@@ -76,12 +78,13 @@ fn read_list(field: &Field, text: &str) -> Result<Vec<i64>, String> {
     let mut values = vec![None; field.times];
     for run in text.split(',').filter(|_| text != NIL) {
         let (range, value) = run.split_once(':').ok_or_else(|| {
-            format!("{} takes \"{NIL}\" or items like 3:500 or 1-{}:500, not \"{run}\"", field.name, field.times)
+            let (name, last, run) = (field.name, field.times, quoted(run));
+            format!("{name} takes \"{NIL}\" or items like 3:500 or 1-{last}:500, not {run}")
         })?;
         let value = read_number(field, value)?;
-        for slot in &mut values[read_range(field, range)?] {
-            if slot.replace(value).is_some() {
-                return Err(format!("{} names a {} of {range} twice", field.name, field.counted_by()));
+        for index in read_range(field, range)? {
+            if values[index].replace(value).is_some() {
+                return Err(format!("{} names {} {} twice", field.name, field.counted_by(), index + 1));
             }
         }
     }
@@ -93,6 +96,9 @@ fn read_range(field: &Field, text: &str) -> Result<std::ops::Range<usize>, Strin
     let (first, last) = text.split_once('-').unwrap_or((text, text));
     match (first.parse::<usize>(), last.parse::<usize>()) {
         (Ok(first), Ok(last)) if 1 <= first && first <= last && last <= field.times => Ok(first - 1..last),
-        _ => Err(format!("{} has {}s 1 to {}, not \"{text}\"", field.name, field.counted_by(), field.times)),
+        _ => {
+            let (name, counted_by, last) = (field.name, field.counted_by(), field.times);
+            Err(format!("{name} has {counted_by}s 1 to {last}, not {}", quoted(text)))
+        }
     }
 }

@@ -2,7 +2,7 @@
 
 use bookkit::{make, show_book, show_input, Listing};
 use books::{aimed_case, case, Draw};
-use reference::{answer_input, split};
+use reference::{answer_input, split, LONGEST_BOOK};
 
 /// The line after the only mark, if there is a mark.
 fn line_after_mark(text: &str) -> Option<&str> {
@@ -27,6 +27,14 @@ fn assert_marked(listing: &Listing) {
     }
 }
 
+/// Text gives back the bytes that it was made from; of a book that is too long it gives nothing.
+fn comes_back(text: &str, bytes: &[u8], book: &[u8]) -> bool {
+    match make(text.as_bytes()) {
+        Ok(made) => made == bytes && book.len() <= LONGEST_BOOK,
+        Err(bad) => bad.why.contains("R 17 0") && book.len() > LONGEST_BOOK,
+    }
+}
+
 #[test]
 fn generated_books_and_inputs_come_back_byte_by_byte() {
     let (mut whole, mut refused) = (0, 0);
@@ -34,11 +42,11 @@ fn generated_books_and_inputs_come_back_byte_by_byte() {
         let case = case(seed);
         let listing = show_book(&case.book);
         assert_marked(&listing);
-        assert!(make(listing.text.as_bytes()).as_ref() == Ok(&case.book), "seed {seed}");
+        assert!(comes_back(&listing.text, &case.book, &case.book), "seed {seed}");
         whole += usize::from(split(&case.book).1.is_empty());
         let listing = show_input(&case.input());
         assert_marked(&listing);
-        assert!(make(listing.text.as_bytes()).as_ref() == Ok(&case.input()), "input of seed {seed}");
+        assert!(comes_back(&listing.text, &case.input(), &case.book), "input of seed {seed}");
         refused += usize::from(listing.refusal.is_some());
     }
     assert!(whole > 1_000 && refused > 500, "{whole} whole, {refused} refused");

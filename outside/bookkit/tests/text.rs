@@ -61,7 +61,7 @@ fn a_bad_line_is_named_with_its_reason() {
             "single-flow currency=1 side=asset months=1 days=2 amount=1,000",
             "amount takes a whole number, not \"1,000\"",
         ),
-        ("term-deposit currency=1 share=2 amounts=1-3:4,3:5", "names a bucket of 3 twice"),
+        ("term-deposit currency=1 share=2 amounts=1-3:4,3:5", "names bucket 3 twice"),
         ("term-deposit currency=1 share=2 amounts=20:5", "has buckets 1 to 19, not \"20\""),
         ("term-deposit currency=1 share=2 amounts=3-2:5", "has buckets 1 to 19, not \"3-2\""),
         ("term-deposit currency=1 share=2 amounts=5", "not \"5\""),
