@@ -1,0 +1,48 @@
+//! Every input through the program, as many side by side as the machine has cores.
+
+use crate::answer::Answer;
+use crate::input;
+use crate::program::Program;
+use crate::report;
+use std::path::{Path, PathBuf};
+use std::process::Stdio;
+use std::sync::atomic::{AtomicUsize, Ordering};
+use std::sync::mpsc;
+use std::thread;
+
+/// What became of an input; why, on one line, if there is no report of it.
+pub type Outcome = Result<Answer, String>;
+
+/// Tells of each input, by its index, as soon as it is over.
+pub fn every(program: &Program, inputs: &[PathBuf], mut tell: impl FnMut(usize, Outcome)) {
+    let next = AtomicUsize::new(0);
+    let (teller, told) = mpsc::channel();
+    let work = |teller: mpsc::Sender<(usize, Outcome)>| loop {
+        let index = next.fetch_add(1, Ordering::Relaxed);
+        let Some(input) = inputs.get(index) else { break };
+        // It listens until the last input is told.
+        let _ = teller.send((index, one(program, input)));
+    };
+    thread::scope(|scope| {
+        for _ in 0..cores().min(inputs.len()) {
+            let teller = teller.clone();
+            scope.spawn(|| work(teller));
+        }
+        drop(teller);
+        told.into_iter().for_each(|(index, outcome)| tell(index, outcome));
+    });
+}
+
+/// The report's place is looked at before anything is run for it.
+fn one(program: &Program, input: &Path) -> Outcome {
+    let file = input::open(input)?;
+    let report = report::beside(input);
+    report::is_free(&report)?;
+    let (answer, text) = program.answer(Stdio::from(file))?;
+    report::keep(&report, &text)?;
+    Ok(answer)
+}
+
+fn cores() -> usize {
+    thread::available_parallelism().map_or(1, usize::from)
+}
