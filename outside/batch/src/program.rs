@@ -4,28 +4,25 @@ use crate::answer::{answer, Answer};
 use crate::shown;
 use std::env;
 use std::ffi::{OsStr, OsString};
+use std::fs::File;
 use std::io::{self, Read};
 use std::os::unix::ffi::OsStringExt;
 use std::os::unix::process::ExitStatusExt;
 use std::path::Path;
-use std::process::{ChildStdout, Command, ExitStatus, Stdio};
-use std::thread::{Builder, JoinHandle};
+use std::process::{Child, Command, Output, Stdio};
+use std::thread;
 
 /// What `irreport` prints for an input of no bytes.
 const OF_NOTHING: &[u8] = b"R 16 0\n";
 
-/// Many times what a report or a message needs. A program that prints more finds its pipe closed.
-const MOST_PRINTED: u64 = 65_536;
-const MOST_SAID: u64 = 1_000;
+/// More than a message needs, and the rest would hide the names around it.
+const MOST_SAID: usize = 1_000;
+
+/// Of a program that is not yet known no more is read: it may print without end.
+const MOST_PROBED: u64 = 2_000;
 
 pub struct Program {
     command: Vec<OsString>,
-}
-
-struct Ended {
-    status: ExitStatus,
-    printed: Vec<u8>,
-    said: Vec<u8>,
 }
 
 impl Program {
@@ -41,78 +38,83 @@ impl Program {
     /// Has to be called before anything is touched: a program that cannot be started is found out here.
     pub fn probe(&self) -> Result<(), String> {
         let named = shown::name(Path::new(self.command.last().ok_or("no program was named")?));
-        let ended = self.start(Stdio::null()).map_err(|why| format!("{named} {why}"))?;
-        if ended.status.success() && ended.printed == OF_NOTHING {
+        let output = self.start(Stdio::null()).and_then(first_output).map_err(|why| format!("{named} {why}"))?;
+        if output.status.success() && output.stdout == OF_NOTHING {
             return Ok(());
         }
-        let why = if ended.said.is_empty() { "it does not answer as irreport does".to_string() } else { ended.why() };
+        let why = match said(&output) {
+            message if message.is_empty() => "it does not answer as irreport does".to_string(),
+            message => message,
+        };
         Err(format!("{named} cannot be used: {why}"))
     }
 
     /// What it printed for an input, if that is whole; why not, on one line, if it is not.
-    pub fn answer(&self, input: Stdio) -> Result<(Answer, Vec<u8>), String> {
-        let ended = self.start(input)?;
-        match answer(&ended.printed) {
-            Some(answer) if ended.status.success() => Ok((answer, ended.printed)),
-            _ => Err(ended.why()),
+    pub fn answer(&self, input: File) -> Result<(Answer, Vec<u8>), String> {
+        let output = self.start(Stdio::from(input))?.wait_with_output().map_err(|error| lost(&error))?;
+        match answer(&output.stdout) {
+            Some(answer) if output.status.success() => Ok((answer, output.stdout)),
+            _ => Err(why(&output)),
         }
     }
 
-    fn start(&self, input: Stdio) -> Result<Ended, String> {
-        let (program, words) = self.command.split_first().ok_or("cannot be started: no program was named")?;
+    fn start(&self, input: Stdio) -> Result<Child, String> {
+        let (program, words) = self.command.split_first().ok_or("no program was named")?;
         let mut command = Command::new(program);
         command.args(words).stdin(input).stdout(Stdio::piped()).stderr(Stdio::piped());
-        let mut child = command.spawn().map_err(|error| format!("cannot be started: {error}"))?;
-        let messages = child.stderr.take().and_then(listen);
-        let printed = child.stdout.take().map(read_printed).unwrap_or_default();
-        let said = messages.and_then(|thread| thread.join().ok()).unwrap_or_default();
-        let status = child.wait().map_err(|error| format!("cannot be waited for: {error}"))?;
-        Ok(Ended { status, printed, said })
+        command.spawn().map_err(|error| format!("cannot be started: {error}"))
     }
 }
 
-impl Ended {
-    fn why(&self) -> String {
-        let said = self.said.trim_ascii();
-        if !said.is_empty() {
-            let lines: Vec<String> = said.split(|byte| *byte == b'\n').map(shown::text).collect();
-            return lines.join("; ");
-        }
-        match (self.status.code(), self.status.signal()) {
-            (Some(code), _) => format!("status {code} and no whole report"),
-            (None, Some(signal)) => format!("ended by signal {signal} and no whole report"),
-            (None, None) => "no whole report".to_string(),
-        }
+/// What a program said on standard error, its lines on one.
+fn said(output: &Output) -> String {
+    let message = output.stderr.trim_ascii();
+    let (message, rest) = message.split_at(message.len().min(MOST_SAID));
+    let lines: Vec<String> = message.split(|byte| *byte == b'\n').map(shown::text).collect();
+    lines.join("; ") + if rest.is_empty() { "" } else { "..." }
+}
+
+fn why(output: &Output) -> String {
+    match (said(output), output.status.code(), output.status.signal()) {
+        (message, ..) if !message.is_empty() => message,
+        (_, Some(code), _) => format!("status {code} and no whole report"),
+        (_, None, Some(signal)) => format!("ended by signal {signal} and no whole report"),
+        (_, None, None) => "no whole report".to_string(),
     }
 }
 
+fn lost(error: &io::Error) -> String {
+    format!("cannot be waited for: {error}")
+}
+
+/// The words end with a NUL byte each.
 fn told(starter: &OsStr) -> Result<Vec<OsString>, String> {
     let named = shown::name(Path::new(starter));
     let asked = Command::new(starter).arg("--command").stdin(Stdio::null()).output();
     let output = asked.map_err(|error| format!("{named} cannot be started: {error}"))?;
-    let ended = Ended { status: output.status, printed: Vec::new(), said: output.stderr };
-    let words: Vec<OsString> =
-        output.stdout.split(|byte| *byte == 0).map(|word| OsString::from_vec(word.to_vec())).collect();
-    match words.split_last() {
-        Some((end, command)) if output.status.success() && end.is_empty() && !command.is_empty() => {
-            Ok(command.to_vec())
-        }
-        _ => Err(format!("{named} cannot be started: {}", ended.why())),
+    let words = output.stdout.strip_suffix(b"\0").unwrap_or_default();
+    if !output.status.success() || words.is_empty() {
+        return Err(format!("{named} cannot be started: {}", why(&output)));
     }
+    Ok(words.split(|byte| *byte == 0).map(|word| OsString::from_vec(word.to_vec())).collect())
 }
 
-/// Both streams are read at once, so that a program that says much never waits for us.
-fn listen(stream: impl Read + Send + 'static) -> Option<JoinHandle<Vec<u8>>> {
-    Builder::new().spawn(move || first_bytes(stream, MOST_SAID).unwrap_or_default()).ok()
+/// The first bytes of both streams. They are read at once, so that neither holds the program up.
+fn first_output(mut child: Child) -> Result<Output, String> {
+    let (stdout, stderr) = (child.stdout.take(), child.stderr.take());
+    let messages = thread::spawn(|| first_bytes(stderr));
+    let printed = first_bytes(stdout);
+    let messages = messages.join().unwrap_or_default();
+    let status = child.wait().map_err(|error| lost(&error))?;
+    Ok(Output { status, stdout: printed, stderr: messages })
 }
 
-/// An answer that could not be read to its end is no whole one.
-fn read_printed(stream: ChildStdout) -> Vec<u8> {
-    first_bytes(stream, MOST_PRINTED).unwrap_or_default()
-}
-
-fn first_bytes(stream: impl Read, most: u64) -> io::Result<Vec<u8>> {
+/// The stream is closed then, which ends a program that prints on.
+fn first_bytes(stream: Option<impl Read>) -> Vec<u8> {
     let mut bytes = Vec::new();
-    stream.take(most).read_to_end(&mut bytes)?;
-    Ok(bytes)
+    if let Some(stream) = stream {
+        // What was read before an error is there, and no whole answer.
+        let _ = stream.take(MOST_PROBED).read_to_end(&mut bytes);
+    }
+    bytes
 }

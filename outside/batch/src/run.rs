@@ -5,7 +5,6 @@ use crate::input;
 use crate::program::Program;
 use crate::report;
 use std::path::{Path, PathBuf};
-use std::process::Stdio;
 use std::sync::atomic::{AtomicUsize, Ordering};
 use std::sync::mpsc;
 use std::thread;
@@ -38,7 +37,7 @@ fn one(program: &Program, input: &Path) -> Outcome {
     let file = input::open(input)?;
     let report = report::beside(input);
     report::is_free(&report)?;
-    let (answer, text) = program.answer(Stdio::from(file))?;
+    let (answer, text) = program.answer(file)?;
     report::keep(&report, &text)?;
     Ok(answer)
 }
