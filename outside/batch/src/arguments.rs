@@ -52,6 +52,9 @@ fn named(inputs: Vec<PathBuf>) -> Result<Wanted, String> {
     match inputs.iter().find(|input| !is_input(input)) {
         None => Ok(Wanted::Inputs { inputs, not_looked_at: None }),
         Some(other) if fs::symlink_metadata(other).is_err() => Err(format!("{} is not there", shown::name(other))),
+        Some(other) if other.is_dir() => {
+            Err(format!("{} is a folder, which has to be given alone", shown::name(other)))
+        }
         Some(other) => Err(format!("{} is no .input file", shown::name(other))),
     }
 }

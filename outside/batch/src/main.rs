@@ -27,7 +27,8 @@ bin/batch --list FILE --share K/N    the same for one of N tasks: inputs K, K + 
 bin/batch --help                     print this
 
 FILE.report is written beside FILE.input as a whole or not at all. An old report is replaced, never removed; where it
-is a link, or no file, that input is not run. IRREPORT in the environment names another report program.
+is a link, or no file, that input is not run. An input that is a link to a file is read. What cannot be run is named,
+and the rest is run. IRREPORT in the environment names another report program.
 The last line says what happened. Status: 0 all were run, 1 some failed to run, 2 bad usage, or the report program
 cannot be started; then nothing was touched.
 ";

@@ -10,7 +10,7 @@ use std::os::unix::ffi::OsStringExt;
 use std::os::unix::process::ExitStatusExt;
 use std::path::Path;
 use std::process::{Child, Command, Output, Stdio};
-use std::thread;
+use std::thread::Builder;
 
 /// What `irreport` prints for an input of no bytes.
 const OF_NOTHING: &[u8] = b"R 16 0\n";
@@ -51,7 +51,8 @@ impl Program {
 
     /// What it printed for an input, if that is whole; why not, on one line, if it is not.
     pub fn answer(&self, input: File) -> Result<(Answer, Vec<u8>), String> {
-        let output = self.start(Stdio::from(input))?.wait_with_output().map_err(|error| lost(&error))?;
+        let child = self.start(Stdio::from(input)).map_err(|why| format!("the report program {why}"))?;
+        let output = child.wait_with_output().map_err(|error| format!("the report program {}", lost(&error)))?;
         match answer(&output.stdout) {
             Some(answer) if output.status.success() => Ok((answer, output.stdout)),
             _ => Err(why(&output)),
@@ -102,7 +103,7 @@ fn told(starter: &OsStr) -> Result<Vec<OsString>, String> {
 /// The first bytes of both streams. They are read at once, so that neither holds the program up.
 fn first_output(mut child: Child) -> Result<Output, String> {
     let (stdout, stderr) = (child.stdout.take(), child.stderr.take());
-    let messages = thread::spawn(|| first_bytes(stderr));
+    let messages = Builder::new().spawn(|| first_bytes(stderr)).map_err(|error| lost(&error))?;
     let printed = first_bytes(stdout);
     let messages = messages.join().unwrap_or_default();
     let status = child.wait().map_err(|error| lost(&error))?;

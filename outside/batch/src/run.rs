@@ -7,7 +7,7 @@ use crate::report;
 use std::path::{Path, PathBuf};
 use std::sync::atomic::{AtomicUsize, Ordering};
 use std::sync::mpsc;
-use std::thread;
+use std::thread::{self, Builder};
 
 /// What became of an input; why, on one line, if there is no report of it.
 pub type Outcome = Result<Answer, String>;
@@ -23,9 +23,13 @@ pub fn every(program: &Program, inputs: &[PathBuf], mut tell: impl FnMut(usize, 
         let _ = teller.send((index, one(program, input)));
     };
     thread::scope(|scope| {
-        for _ in 0..cores().min(inputs.len()) {
-            let teller = teller.clone();
-            scope.spawn(|| work(teller));
+        let begin = |_: &usize| {
+            let (work, teller) = (&work, teller.clone());
+            Builder::new().spawn_scoped(scope, move || work(teller)).is_ok()
+        };
+        // Where no thread can be had, as on a machine that is full, one input is run after the other.
+        if (0..cores().min(inputs.len())).filter(begin).count() == 0 {
+            work(teller.clone());
         }
         drop(teller);
         told.into_iter().for_each(|(index, outcome)| tell(index, outcome));

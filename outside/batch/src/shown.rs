@@ -28,8 +28,9 @@ fn push(shown: &mut String, letter: char) {
     match letter {
         '\'' | '"' => shown.push(letter),
         '\0'..='\x1f' | '\x7f' if !"\n\r\t".contains(letter) => *shown += &format!("\\x{:02x}", u32::from(letter)),
-        // It writes out what cannot be printed: controls, marks that turn the line's direction, what has no letter.
-        _ => shown.extend(letter.escape_debug()),
+        // This writes out controls, marks that turn the line's direction, what has no letter; and an accent, but not
+        // after the letter that bears it.
+        _ => shown.extend(format!("a{letter}").escape_debug().skip(1)),
     }
 }
 
@@ -39,7 +40,8 @@ mod tests {
 
     #[test]
     fn plain_names_stay_as_they_are() {
-        for plain in ["inputs/end of  month.input", "Zürich's \"books\".input", "月末.input", "-x.input", ""] {
+        for plain in ["inputs/end of  month.input", "Zürich's \"books\".input", "月末.input", "สิ้นเดือน", "-x.input", ""]
+        {
             assert_eq!(text(plain.as_bytes()), plain);
         }
     }
