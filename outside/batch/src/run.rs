@@ -6,33 +6,28 @@ use crate::program::Program;
 use crate::report;
 use std::path::{Path, PathBuf};
 use std::sync::atomic::{AtomicUsize, Ordering};
-use std::sync::mpsc;
+use std::sync::Mutex;
 use std::thread::{self, Builder};
 
 /// What became of an input; why, on one line, if there is no report of it.
 pub type Outcome = Result<Answer, String>;
 
 /// Tells of each input, by its index, as soon as it is over.
-pub fn every(program: &Program, inputs: &[PathBuf], mut tell: impl FnMut(usize, Outcome)) {
+pub fn every(program: &Program, inputs: &[PathBuf], tell: impl FnMut(usize, Outcome) + Send) {
     let next = AtomicUsize::new(0);
-    let (teller, told) = mpsc::channel();
-    let work = |teller: mpsc::Sender<(usize, Outcome)>| loop {
+    let tell = Mutex::new(tell);
+    let work = || loop {
         let index = next.fetch_add(1, Ordering::Relaxed);
         let Some(input) = inputs.get(index) else { break };
-        // It listens until the last input is told.
-        let _ = teller.send((index, one(program, input)));
+        let outcome = one(program, input);
+        tell.lock().expect("nothing that tells panics")(index, outcome);
     };
     thread::scope(|scope| {
-        let begin = |_: &usize| {
-            let (work, teller) = (&work, teller.clone());
-            Builder::new().spawn_scoped(scope, move || work(teller)).is_ok()
-        };
-        // Where no thread can be had, as on a machine that is full, one input is run after the other.
-        if (0..cores().min(inputs.len())).filter(begin).count() == 0 {
-            work(teller.clone());
+        for _ in 1..cores().min(inputs.len()) {
+            // A machine that is full may have no thread for us; this one is there in any case.
+            let _ = Builder::new().spawn_scoped(scope, &work);
         }
-        drop(teller);
-        told.into_iter().for_each(|(index, outcome)| tell(index, outcome));
+        work();
     });
 }
 
