@@ -18,9 +18,14 @@ pub struct Said<'a> {
     failed: Vec<usize>,
 }
 
-/// A line on standard error. Where that is closed there is nobody to tell.
+/// A line on standard error.
 pub fn line(text: &str) {
-    let _ = writeln!(io::stderr(), "batch: {text}");
+    put(&format!("batch: {text}\n"));
+}
+
+/// In one piece, for tasks that write to one log mix theirs. Where standard error is closed there is nobody to tell.
+fn put(text: &str) {
+    let _ = io::stderr().write_all(text.as_bytes());
 }
 
 impl Said<'_> {
@@ -43,9 +48,7 @@ impl Said<'_> {
 
     /// The count goes to standard output, or to standard error where that cannot be written. Answers whether all were run.
     pub fn end(mut self) -> bool {
-        if !self.inputs.is_empty() {
-            self.end_progress();
-        }
+        self.end_progress();
         self.failed.sort_unstable();
         self.failed.iter().for_each(|index| line(&without_report(&self.inputs[*index])));
         let (reported, turned_down, failed) = (self.reported, self.turned_down, self.failed.len());
@@ -58,19 +61,23 @@ impl Said<'_> {
     }
 
     fn progress(&self) {
-        let (finished, total) = (self.reported + self.turned_down + self.failed.len(), self.inputs.len());
-        let _ = match finished {
-            _ if self.terminal => write!(io::stderr(), "\r{finished}/{total}"),
-            _ if finished % STEP == 0 || finished == total => writeln!(io::stderr(), "{finished}/{total}"),
-            _ => Ok(()),
-        };
+        let (finished, total) = (self.finished(), self.inputs.len());
+        if self.terminal {
+            put(&format!("\r{finished}/{total}"));
+        } else if finished % STEP == 0 || finished == total {
+            put(&format!("{finished}/{total}\n"));
+        }
     }
 
     /// A terminal's progress has no end of line, so that it is written over.
     fn end_progress(&self) {
-        if self.terminal && self.reported + self.turned_down + self.failed.len() > 0 {
-            let _ = writeln!(io::stderr());
+        if self.terminal && self.finished() > 0 {
+            put("\n");
         }
+    }
+
+    fn finished(&self) -> usize {
+        self.reported + self.turned_down + self.failed.len()
     }
 }
 
