@@ -49,7 +49,8 @@ mod tests {
             "\\u{9b}2J\\u{85}\\u{202e}txt.exe\\u{2028}"
         );
         assert_eq!(plain(b"a\xffb\xc3"), "a\\xffb\\xc3");
-        for itself in ["Bücher 'März'/वित्त.input", "end of  \"month\"", "月末", "สิ้นเดือน", "-x", ""] {
+        for itself in ["Bücher 'März'/वित्त.input", "end of  \"month\"", "月末", "สิ้นเดือน", "-x", ""]
+        {
             assert_eq!(plain(itself.as_bytes()), itself);
         }
         assert_ne!(plain(b"\\u{1b}"), plain(b"\x1b"));
