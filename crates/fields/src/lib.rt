@@ -120,10 +120,10 @@ pub fn period_at(body: &[u8], at: usize) -> Field
     }
 }
 
-// The product with the period is tested with the count. It is taken at 64 bits, where no period can make it wrap.
-pub fn count_at(period: u32, body: &[u8], at: usize) -> Field
+// The last month, counted from a start, is tested with the count. It is taken at 64 bits, where no start and no period can make it wrap.
+pub fn count_at(start: u32, period: u32, body: &[u8], at: usize) -> Field
     requires { ⌜ at + 2 ≤ length (now body) ⌝ }
-    ensures { λ r. ⌜ r ≡ fieldOf (countAt period (now (body .entry)) at) ⌝ }
+    ensures { λ r. ⌜ r ≡ fieldOf (countAt start period (now (body .entry)) at) ⌝ }
 {
     let count = two_at(body, at);
     let fault = Fault {
@@ -133,7 +133,7 @@ pub fn count_at(period: u32, body: &[u8], at: usize) -> Field
     if count < 1 {
         return Field::Bad(fault);
     }
-    if 600 < (period as u64) * (count as u64) {
+    if 600 < (start as u64) + (period as u64) * (count as u64) {
         return Field::Bad(fault);
     }
     Field::Value(count)

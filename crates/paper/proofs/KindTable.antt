@@ -34,7 +34,7 @@ module _ (top : ℕ) (curved : ℕ → Bool) (body : List ℕ) where
       begins top body (λ c hc.
       chain (side-known body 1) (λ s hs.
       chain (period-known body 2) (λ p hp.
-      chain (count-known body 3 p) (λ n hn.
+      chain (count-known body 3 0 p) (λ n hn.
       chain (amount-known body 5) (λ a ha.
       chain (amount-known body 9) (λ b hb.
       flows-read hc (hs, hp, hn, ha, hb)))))))

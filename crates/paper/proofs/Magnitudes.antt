@@ -11,9 +11,9 @@ use Rattle.laws.specs.Sums.{sum, sumOf}
 use Rattle.laws.proofs.Integers.{abs-neg}
 use Rattle.laws.proofs.Sums.{sum-ext, sum-add, sum-le, sum-nil, sum-only}
 use Rattle.laws.proofs.Totals.{sum-getD}
-use Rattle.paper.specs.Ladder.{buckets, Term, inMonths, bucketOf}
+use Rattle.paper.specs.Ladder.{buckets, Term, later, bucketOf}
 use Rattle.paper.specs.Curve.{Curve}
-use Rattle.paper.specs.Records.{Flows, coupons, deposit, loan, termDeposit, flows, option, curve}
+use Rattle.paper.specs.Records.{Flows, deposit, loan, termDeposit, flows, option, curve}
 use Rattle.paper.specs.Behaviour.{depositFlow, prepaymentRate, withdrawalRate, paidAt, prepaidAt, interestAt, loanFlow, termDepositFlow}
 use Rattle.paper.specs.Flow.{sided, due, couponsDue, flowOf, flow, magnitude}
 use Rattle.paper.proofs.Buckets.{in-bucket}
@@ -30,15 +30,15 @@ due-once term amount =
     let here : bucketOf term ≡ suc k = omega (arith, i .from) in
     sum-only (due term amount) buckets k (omega (arith, i .to)) (λ j _ n. rw (ne-eqb (bucketOf term) (suc j) (λ e. n (omega arith)))) ∙ rw (eq-eqb (bucketOf term) (suc k) here)
 
-pub coupons-add-up : (period count coupon : ℕ) → sum (couponsDue period count coupon) buckets ≡ count * coupon
+pub coupons-add-up : (start : Term) (period count coupon : ℕ) → sum (couponsDue start period count coupon) buckets ≡ count * coupon
 unfolding couponsDue sum
-coupons-add-up period zero coupon = sum-nil buckets ∙ omega arith
-coupons-add-up period (suc n) coupon =
+coupons-add-up start period zero coupon = sum-nil buckets ∙ omega arith
+coupons-add-up start period (suc n) coupon =
     omega (
       arith,
-      sum-add (couponsDue period n coupon) (due (inMonths (period * suc n)) coupon) buckets,
-      coupons-add-up period n coupon,
-      due-once (inMonths (period * suc n)) coupon,
+      sum-add (couponsDue start period n coupon) (due (later (period * suc n) start) coupon) buckets,
+      coupons-add-up start period n coupon,
+      due-once (later (period * suc n) start) coupon,
     )
 
 pub abs-sided : (side : ℕ) (z : ℤ) → natAbs (sided side z) ≡ natAbs z
@@ -55,13 +55,14 @@ module _ (c i : ℕ) where
   unfolding magnitude flow
   size-due f side term amount are = sum-ext _ _ buckets (λ k _. ap natAbs (sym (are k)) ∙ abs-sided side (pos (due term amount k))) ∙ due-once term amount
 
-  pub size-coupons : (side period count coupon principal : ℕ) → magnitude (flows c (coupons side period count coupon principal)) i ≡ count * coupon + principal
-  unfolding magnitude flow flowOf
-  size-coupons side period count coupon principal =
-      let last = inMonths (period * count) in
-      sum-ext _ _ buckets (λ k _. abs-sided side (pos (couponsDue period count coupon k + due last principal k)))
-      ∙ sum-add (couponsDue period count coupon) (due last principal) buckets
-      ∙ omega (arith, coupons-add-up period count coupon, due-once last principal)
+  -- coupons after a start, and one amount due at a term
+  pub size-coupons : (f : Flows) (side : ℕ) (start : Term) (period count coupon : ℕ) (term : Term) (amount : ℕ)
+      → ((k : ℕ) → sided side (pos (couponsDue start period count coupon k + due term amount k)) ≡ flowOf f i k) → magnitude (flows c f) i ≡ count * coupon + amount
+  unfolding magnitude flow
+  size-coupons f side start period count coupon term amount are =
+      sum-ext _ _ buckets (λ k _. ap natAbs (sym (are k)) ∙ abs-sided side (pos (couponsDue start period count coupon k + due term amount k)))
+      ∙ sum-add (couponsDue start period count coupon) (due term amount) buckets
+      ∙ omega (arith, coupons-add-up start period count coupon, due-once term amount)
 
   pub size-deposit : (category whole : ℕ) (core : List ℕ) → length core ≤ buckets → sumOf core ≤ whole → magnitude (flows c (deposit category whole core)) i ≡ whole
   unfolding magnitude flow flowOf

@@ -1,5 +1,5 @@
 -- What a field lies in once it is read, and what the rules after the fields leave; a refusal on the way is one of a record.
-use Prim.Native.Nat.{ℕ, zero, suc, _*_, _≤_, _<_}
+use Prim.Native.Nat.{ℕ, zero, suc, _+_, _*_, _≤_, _<_}
 use mathlib.Core.Bool.{Bool, true, false, not, _&&_, _||_}
 use mathlib.Core.List.{List}
 use mathlib.Core.Logic.{⊎-elim}
@@ -46,10 +46,10 @@ period-range p e =
     this : (q : ℕ) → 1 ≤ q → q ≤ 12 → (p is q) ≡ true → Between 1 12 p
     this q low high t = let same = eqb-true p q t in record { from = omega arith; to = omega arith }
 
-count-range : (period count : ℕ) → badCount period count ≡ false → Counted period count
+count-range : (start period count : ℕ) → badCount start period count ≡ false → Counted start period count
 unfolding badCount
-count-range period count e =
-    let both = or-false (count below 1) (600 below period * count) e in
+count-range start period count e =
+    let both = or-false (count below 1) (600 below start + period * count) e in
     record { some = ltb-false _ _ (both .0); last = ltb-false _ _ (both .1) }
 
 pub shock-range : (s : ℕ) → badShock s ≡ false → Between 0 1000 s
@@ -85,9 +85,9 @@ module _ (body : List ℕ) (o : ℕ) where
   unfolding touchesNothing numberOf
   period-known = field-known (λ p e. e) _ _ _ refl
 
-  pub count-known : (period : ℕ) → Checks Clears (Counted period) (countAt period body o)
+  pub count-known : (start period : ℕ) → Checks Clears (Counted start period) (countAt start period body o)
   unfolding touchesNothing numberOf
-  count-known period = field-known (count-range period) _ _ _ refl
+  count-known start period = field-known (count-range start period) _ _ _ refl
 
   pub amount-known : Checks Clears (Between 0 billion) (amountAt body o)
   unfolding badAmount touchesNothing numberOf

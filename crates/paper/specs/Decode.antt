@@ -28,7 +28,7 @@ module _ (top : ℕ) where
     currency ← currencyAt top body 0
     side ← sideAt body 1
     period ← periodAt body 2
-    count ← countAt period body 3
+    count ← countAt 0 period body 3
     coupon ← amountAt body 5
     principal ← amountAt body 9
     accepted (flows currency (coupons side period count coupon principal))

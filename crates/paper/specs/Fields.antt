@@ -43,8 +43,8 @@ daysAt body o = field badDays BadTerm o (byte body o)
 abbrev pub periodAt : List ℕ → ℕ → Checked ℕ
 periodAt body o = field badPeriod BadTerm o (byte body o)
 
-abbrev pub countAt : ℕ → List ℕ → ℕ → Checked ℕ
-countAt period body o = field (badCount period) BadTerm o (two body o)
+abbrev pub countAt : ℕ → ℕ → List ℕ → ℕ → Checked ℕ
+countAt start period body o = field (badCount start period) BadTerm o (two body o)
 
 abbrev pub amountAt : List ℕ → ℕ → Checked ℕ
 amountAt body o = field badAmount TooLarge o (four body o)

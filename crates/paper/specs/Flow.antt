@@ -4,7 +4,7 @@ use lib.IntN.{ℤ, pos, negℤ, natAbs}
 use lib.ListN.{getD}
 use Rattle.laws.specs.Tests.{if_then_else_, _is_}
 use Rattle.laws.specs.Sums.{sum}
-use Rattle.paper.specs.Ladder.{buckets, Term, inMonths, bucketOf}
+use Rattle.paper.specs.Ladder.{buckets, Term, inMonths, today, later, bucketOf}
 use Rattle.paper.specs.Curve.{shockedRate}
 use Rattle.paper.specs.Records.{Flows, single, coupons, floating, deposit, loan, termDeposit, Record, flows, option, curve}
 use Rattle.paper.specs.Behaviour.{depositFlow, prepaymentRate, withdrawalRate, loanFlow, termDepositFlow}
@@ -25,15 +25,15 @@ sided side z = if side is 1 then z else negℤ z
 unfoldable pub due : Term → ℕ → ℕ → ℕ
 due term amount k = if bucketOf term is suc k then amount else 0
 
--- a coupon at each period's end
-unfoldable pub couponsDue : ℕ → ℕ → ℕ → ℕ → ℕ
-couponsDue period count coupon k = sum (λ j. due (inMonths (period * suc j)) coupon k) count
+-- a coupon at the end of each of so many periods after a start
+unfoldable pub couponsDue : Term → ℕ → ℕ → ℕ → ℕ → ℕ
+couponsDue start period count coupon k = sum (λ j. due (later (period * suc j) start) coupon k) count
 
 -- kinds 1 to 6
 unfoldable pub flowOf : Flows → ℕ → ℕ → ℤ
 flowOf (single side term amount) i k = sided side (pos (due term amount k))
 flowOf (coupons side period count coupon principal) i k =
-    sided side (pos (couponsDue period count coupon k + due (inMonths (period * count)) principal k))
+    sided side (pos (couponsDue today period count coupon k + due (inMonths (period * count)) principal k))
 flowOf (floating side reset principal coupon) i k = sided side (pos (due reset (principal + coupon) k))
 flowOf (deposit category total core) i k = negℤ (pos (depositFlow total core k))
 flowOf (loan share principals interests) i k = pos (loanFlow (prepaymentRate share i) principals interests k)

@@ -1,5 +1,5 @@
 -- Time ladder (001, table 3). A bucket is 1 to 19; in lists and sums it stands at k = bucket - 1.
-use Prim.Native.Nat.{ℕ, suc}
+use Prim.Native.Nat.{ℕ, suc, _+_}
 use mathlib.Core.Bool.{Bool, _&&_, _||_}
 use mathlib.Core.List.{List, [], _∷_, map}
 use lib.ListN.{getD}
@@ -15,6 +15,14 @@ pub record Term : Type 0 where
 
 abbrev pub inMonths : ℕ → Term
 inMonths m = record { months = m; days = 0 }
+
+-- the book's own date
+abbrev pub today : Term
+today = inMonths 0
+
+-- so many months later, the same days
+abbrev pub later : ℕ → Term → Term
+later m t = record { months = t .months + m; days = t .days }
 
 -- compared by months and then days
 unfoldable pub notAfter : Term → Term → Bool

@@ -21,9 +21,9 @@ pub record Between (low high x : ℕ) : Type 0 where
   pub to : x ≤ high
 
 -- a count is some, and the last month is at most 600
-pub record Counted (period count : ℕ) : Type 0 where
+pub record Counted (start period count : ℕ) : Type 0 where
   pub some : 1 ≤ count
-  pub last : period * count ≤ 600
+  pub last : start + period * count ≤ 600
 
 pub record Small (z : ℤ) : Type 0 where
   pub small : natAbs z ≤ billion
@@ -49,7 +49,7 @@ SoundTerm t = Between 0 600 (t .months) × Between 0 30 (t .days)
 unfoldable pub SoundFlows : Flows → Type 0
 SoundFlows (single side term amount) = Between 1 2 side × SoundTerm term × Between 0 billion amount
 SoundFlows (coupons side period count coupon principal) =
-    Between 1 2 side × (badPeriod period ≡ false) × Counted period count × Between 0 billion coupon × Between 0 billion principal
+    Between 1 2 side × (badPeriod period ≡ false) × Counted 0 period count × Between 0 billion coupon × Between 0 billion principal
 SoundFlows (floating side reset principal coupon) = Between 1 2 side × SoundTerm reset × Between 0 billion principal × Between 0 billion coupon
 SoundFlows (deposit category whole core) =
     Between 1 3 category × Between 0 billion whole × Amounts core × (coreAboveCap category whole core ≡ false) × (coreTooLong category core ≡ false)

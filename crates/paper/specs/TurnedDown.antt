@@ -30,7 +30,7 @@ badCurrency top c = not (1 upTo c && c upTo top)
 unfoldable pub badSide : ℕ → Bool
 badSide side = not (1 upTo side && side upTo 2)
 
--- 5: bad months, days, period or count; the product is tested with the count
+-- 5: bad months, days, period or count; the last month, counted from a start, is tested with the count
 unfoldable pub badMonths : ℕ → Bool
 badMonths months = 600 below months
 
@@ -40,8 +40,8 @@ badDays days = 30 below days
 unfoldable pub badPeriod : ℕ → Bool
 badPeriod period = not (period is 1 || period is 3 || period is 6 || period is 12)
 
-unfoldable pub badCount : ℕ → ℕ → Bool
-badCount period count = count below 1 || 600 below period * count
+unfoldable pub badCount : ℕ → ℕ → ℕ → Bool
+badCount start period count = count below 1 || 600 below start + period * count
 
 -- 6: amount or option magnitude above 1,000,000,000
 unfoldable pub badAmount : ℕ → Bool

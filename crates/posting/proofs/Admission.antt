@@ -111,10 +111,18 @@ due-taken c f side term amount are parts accepts =
 
 -- ---- one row of nineteen flows, the same in every scenario
 
+-- a row that was filled by a rule is entered as the rule
+pub row-entered : (f : ℕ → ℕ) (side : ℕ) (more : ℕ → ℕ) {section section' : List ℤ} {sizes sizes' l : List ℕ} {answer : Taken} → l ≡ tabulate f buckets
+    → Entered (λ j. getD l (j % buckets) 0) side more section sizes answer section' sizes' → Entered (λ j. f (j % buckets)) side more section sizes answer section' sizes'
+row-entered f side more {section = section} {sizes = sizes} e h = record {
+  answered = h .answered;
+  cells = h .cells ∙ ap (λ (z : List ℤ). onlyIf (roomFor more sizes scenarios) z section)
+      (joined-ext _+ℤ_ (pos 0) section _ _ (λ j _. ap (λ (n : ℕ). sided side (pos n)) (row-at f buckets e (j % buckets) (omega arith))));
+  sums = h .sums;
+}
+
 pub row-taken : (r : Record) {read : Checked Record} → read ≡ accepted r → (side : ℕ) {section section' : List ℤ} {sizes sizes' l : List ℕ} {answer : Taken} → FlowParts section sizes
     → (f : ℕ → ℕ) (size : ℕ) → l ≡ tabulate f buckets → ((i k : ℕ) → sided side (pos (f k)) ≡ flow r i k) → ((i : ℕ) → magnitude r i ≡ size)
     → Entered (λ j. getD l (j % buckets) 0) side (λ i. size) section sizes answer section' sizes' → FlowsTaken read section sizes answer section' sizes'
-row-taken r accepts side parts f size e flows-are sized =
-    entered-taken r accepts _ side _ parts
-    (λ j o. ap (λ (n : ℕ). sided side (pos n)) (row-at f buckets e (j % buckets) (omega arith)) ∙ flows-are (j / buckets) (j % buckets))
-    (λ i o. sym (sized i))
+row-taken r accepts side parts f size e flows-are sized h =
+    entered-taken r accepts _ side _ parts (λ j o. flows-are (j / buckets) (j % buckets)) (λ i o. sym (sized i)) (row-entered f side _ e h)

@@ -38,7 +38,7 @@ pub fn decode_coupons(currency: u32, body: &[u8]) -> DecodedCoupons
     let Field::Value(period) = read else {
         return DecodedCoupons::Refused(read.fault());
     };
-    let read = count_at(period, body, 3);
+    let read = count_at(0, period, body, 3);
     let Field::Value(count) = read else {
         return DecodedCoupons::Refused(read.fault());
     };

@@ -1,5 +1,5 @@
--- kind 2
-pub mod Schedule
+-- coupons at regular periods
+pub mod Periods
 -- kind 7
 pub mod Options
 -- kind 8

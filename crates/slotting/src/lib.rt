@@ -5,4 +5,5 @@ pub mod curves;
 mod due;
 pub mod floating;
 pub mod option_add_on;
+mod schedule;
 pub mod single;

@@ -19,7 +19,7 @@ at-period : tie.After-known-told → Left (λ b. periodAt b 2)
 unfolding at-side
 at-period c = then (at-side (c .before .before .before .before)) _ (value (c .before .before .before .side-at .ensures) (c .before .read .given .1)) refl
 
-at-count : (c : tie.After-known-told2) → Left (λ b. countAt (c .before .read2 .given .0 .0) b 3)
+at-count : (c : tie.After-known-told2) → Left (λ b. countAt 0 (c .before .read2 .given .0 .0) b 3)
 unfolding at-period
 at-count c = then (at-period (c .before .before .before .before)) _ (value (c .before .before .before .period-at .ensures) (c .before .read2 .given .1)) refl
 

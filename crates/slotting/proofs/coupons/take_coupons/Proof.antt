@@ -1,25 +1,22 @@
--- `take_coupons`: refused by its decoder, or a row of coupons entered.
-use Prim.Native.Nat.{ℕ, _+_, _*_, _≤_}
-use Rattle.paper.specs.Ladder.{buckets}
-use Rattle.paper.specs.Decode.{decodeCoupons}
-use Rattle.paper.proofs.Magnitudes.{size-coupons}
-use Rattle.record.specs.Answers.{couponsOf, couponsRead}
-use Rattle.posting.specs.Parts.{trillion}
-use Rattle.posting.proofs.Loops.{row-long, row-small}
-use Rattle.posting.proofs.Admission.{row-taken}
-use Rattle.slotting.proofs.Schedule.{scheduled, scheduled-small, scheduled-flow, size-small}
+-- `take_coupons`: refused by its decoder, or slotted as coupons from today on with the principal at the last.
+use Prim.Native.Nat.{ℕ, _*_}
 use mathlib.Core.Bool.{false}
 use mathlib.Core.List.{List}
 use mathlib.Core.Path.{_≡_, refl, sym, ap, _∙_}
 use native.Mathlib.Omega.{arith}
 use borrow.Author.Needs.{needs}
+use Rattle.paper.specs.Ladder.{inMonths}
 use Rattle.paper.specs.Refusals.{accepted}
 use Rattle.paper.specs.Records.{flows, currencies}
+use Rattle.paper.specs.Flow.{flowOf}
+use Rattle.paper.specs.Decode.{decodeCoupons}
 use Rattle.paper.specs.Sound.{SoundFlows}
 use Rattle.paper.proofs.Ranges.{period-range}
 use Rattle.paper.proofs.KindTable.{coupons-kind}
 use Rattle.record.specs.declared.coupons.Coupons.{Coupons}
+use Rattle.record.specs.Answers.{couponsOf, couponsRead}
 use Rattle.posting.proofs.Admission.{flows-refused, flows-sound}
+use Rattle.slotting.proofs.Periods.{schedule-taken}
 use Rattle.slotting.proofs.coupons.take_coupons.Statement.{statement}
 use Rattle.slotting.proofs.coupons.take_coupons.Tie as tie
 
@@ -41,79 +38,38 @@ module _ (c : tie.After-known-told2) where
 decode-coupons-requires : tie.Need-decode-coupons-requires
 decode-coupons-requires c κs = c .before .before .pre .0
 
-enum-known-fault : tie.Need-enum-known-fault
-enum-known-fault c = search needs
-
-enum-known-bond : tie.Need-enum-known-bond
-enum-known-bond c = search needs
-
-small : (w : tie.After-known-told2) → fields w .count * fields w .coupon .0 + fields w .principal .0 ≤ trillion
-small w = size-small _ (fields w .period) _ _ _ (sound w)
-
-mul-size : tie.Need-mul-t12
-mul-size c = record { fits = omega (arith, small (c .before .before)) }
-
-add-size : tie.Need-add-t13
-add-size c = record { fits = omega (arith, small (c .before .before .before)) }
-
-slice-aggregate-coupon-row : tie.Need-slice-aggregate-coupon-row
-slice-aggregate-coupon-row c = search needs
-
-coupon-row-requires : tie.Need-coupon-row-requires
+mul-slot-schedule : tie.Need-mul-slot-schedule
 unfolding SoundFlows
-coupon-row-requires c κs = let p = sound (c .before .before .before .before) in (period-range _ (p .1) .from, p .2 .last, p .3 .to, p .4 .to, refl)
+mul-slot-schedule c = record { fits = omega (arith, sound (c .before .before .before) .2 .last) }
 
-slice-aggregate-enter-row : tie.Need-slice-aggregate-enter-row
-slice-aggregate-enter-row c = search needs
-
-enter-row-requires : tie.Need-enter-row-requires
-enter-row-requires c κs =
-    let w = c .before .before .before .before .before .before .before .before .before in
-    let b = fields w in
-    let filled = c .before .before .before .before .coupon-row .ensures in (
-      (
-        row-long (scheduled (b .period) (b .count) (b .coupon .0) (b .principal .0)) buckets filled,
-        row-small (scheduled (b .period) (b .count) (b .coupon .0) (b .principal .0)) buckets trillion filled
-            (λ k l. omega (arith, scheduled-small (b .period) (b .count) (b .coupon .0) (b .principal .0) k l, small w)),
-        small w,
-      ),
-      w .before .before .before .before .before .before .pre .1,
-    )
+slot-schedule-requires : tie.Need-slot-schedule-requires
+unfolding SoundFlows
+slot-schedule-requires c κs =
+    let w = c .before .before .before .before .before in
+    let p = sound w in
+    ((record { some = period-range _ (p .1) .from; last = p .2 .last; small = p .3 .to }, omega (arith, p .4 .to)), w .before .before .before .before .before .before .pre .1)
 
 returns : tie.Need-returns
 unfolding couponsRead
 returns c = flows-refused (c .before .fault .given .0 .0) (sym (c .before .before .before .decode-coupons .ensures) ∙ ap (couponsRead) (c .before .fault .given .1)) _ _
 
-same-length : tie.Need-same-length
-same-length c = search needs
-
-same-length-2 : tie.Need-same-length-2
-same-length-2 c = search needs
-
 returns-2 : tie.Need-returns-2
+unfolding flowOf
 returns-2 c =
-    let w = c .before .before .before .before .before .before .before .before .before .before .before .before .before in
-    let b = fields w in
-    row-taken _ (read w) (b .side) (w .before .before .before .before .before .before .pre .1)
-    (scheduled (b .period) (b .count) (b .coupon .0) (b .principal .0)) _ (c .before .before .before .before .before .before .before .before .coupon-row .ensures)
-    (scheduled-flow (b .period) (b .count) (b .coupon .0) (b .currency) (b .side) (b .principal .0))
-    (λ i. size-coupons (b .currency) i (b .side) (b .period) (b .count) (b .coupon .0) (b .principal .0)) (c .before .before .before .enter-row .ensures)
+    let w = c .before .before .before .before .before .before .before .before .before in
+    schedule-taken _ (fields w .currency) (couponsOf (fields w)) (fields w .side) (inMonths (fields w .period * fields w .count)) (fields w .principal .0) (λ i k. refl)
+    (w .before .before .before .before .before .before .pre .1) (read w) (c .before .before .before .slot-schedule .ensures)
 
 pub take-coupons-spec : {M : Type 1} → statement M
 take-coupons-spec =
     tie.close
     (tie.spec
     decode-coupons-requires
-    enum-known-fault
-    enum-known-bond
     (λ c. search needs)
-    mul-size
-    add-size
-    slice-aggregate-coupon-row
-    coupon-row-requires
-    slice-aggregate-enter-row
-    enter-row-requires
+    (λ c. search needs)
+    mul-slot-schedule
+    slot-schedule-requires
     returns
-    same-length
-    same-length-2
+    (λ c. search needs)
+    (λ c. search needs)
     returns-2)

@@ -1,0 +1,24 @@
+-- Coupons at regular periods after a start, and one amount due at a term.
+use Prim.Native.Nat.{ℕ, suc, _+_, _*_, _≤_}
+use Rattle.laws.specs.Tests.{if_then_else_, _is_}
+use Rattle.paper.specs.Scales.{billion}
+use Rattle.paper.specs.Ladder.{Term}
+use Rattle.paper.specs.Flow.{due, couponsDue}
+use Rattle.slotting.specs.declared.schedule.Schedule.{Schedule}
+
+abbrev pub startOf : Schedule → Term
+startOf s = record { months = s .months; days = s .days }
+
+-- what bucket k + 1 sees of the coupons and of the amount
+abbrev pub scheduled : Schedule → Term → ℕ → ℕ → ℕ
+scheduled s term amount k = couponsDue (startOf s) (s .period) (s .count) (s .coupon .0) k + due term amount k
+
+-- what was decoded: some period, no coupon past month 600
+pub record Regular (s : Schedule) : Type 0 where
+  pub some : 1 ≤ s .period
+  pub last : s .months + s .period * s .count ≤ 600
+  pub small : s .coupon .0 ≤ billion
+
+-- every end but the first is a whole month: days past a month act there as a month more
+unfoldable pub monthSeen : Term → ℕ
+monthSeen t = if t .days is 0 then t .months else suc (t .months)
