@@ -11,8 +11,8 @@ use Rattle.paper.specs.Records.{Record, currencies}
 use Rattle.paper.specs.Ledger.{totals}
 use Rattle.paper.specs.Verdict.{changeAt, verdictAt, reportOf}
 use Rattle.paper.specs.Book.{outcome, reportAfter}
-use Rattle.paper.proofs.Example as example
-use Rattle.paper.proofs.TwoCurrencies as two
+use Rattle.worked.proofs.Example as example
+use Rattle.worked.proofs.TwoCurrencies as two
 use Rattle.book.specs.declared.assess.Assessed.{Assessed}
 use Rattle.book.specs.declared.assess.Assessed.the-variants.{Refused}
 use Rattle.book.specs.Assessed.{told, answerOf, Assesses}

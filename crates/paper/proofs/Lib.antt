@@ -3,7 +3,6 @@ pub mod Cases
 pub mod Rules
 pub mod Bytes
 pub mod DecodeCases
-pub mod Outcomes
 -- ladder, behaviour, magnitudes, and what refusal 14 leaves
 pub mod Buckets
 pub mod Midpoints
@@ -36,6 +35,3 @@ pub mod EmptyCurrency
 pub mod Demand3
 -- the table of tables written out, by which a report is cheap to compute
 pub mod FactorTable
-pub mod Example
-pub mod TwoCurrencies
-pub mod PrintCases

@@ -3,9 +3,9 @@ use mathlib.Core.Path.{_≡_, refl}
 use mathlib.Core.List.{[], _∷_, _++_}
 use Rattle.laws.specs.Tests.{_is_}
 use Rattle.laws.specs.Lists.{tabulateFrom}
 use Rattle.paper.specs.Records.{currencies}
 use Rattle.paper.specs.Program.{digitsOf, decimal, signedDecimal, items, line, changesLines, verdictWord, reportText, refusalText}
-use Rattle.paper.proofs.Example.{changes, stated}
+use Rattle.worked.proofs.Example.{changes, stated}
 
 -- C 1 632121 -1718282 0 0 0 0 / S 632121 0 0 0 0 0 / M 632121 1 2 / V OVER
 pub example-lines : reportText currencies (λ c. c is 1) (stated 1)

@@ -1,0 +1,1 @@
+// Books worked out by the definitions alone, and held to by computation: proofs/. No code.
