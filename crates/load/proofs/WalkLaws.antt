@@ -17,7 +17,8 @@ use Rattle.arrays.specs.declared.masks.Masks.{Masks}
 use Rattle.arrays.specs.Arrays.{Arrays, arraysOf, Sized}
 use Rattle.turn.specs.declared.Walked.the-variants.{All, Refused}
 use Rattle.turn.specs.declared.Step.{Step}
-use Rattle.turn.specs.Step.{masksAs, tested, Turned, Turns}
+use Rattle.lending.specs.Records.{tested}
+use Rattle.turn.specs.Step.{masksAs, Turned, Turns}
 use Rattle.load.specs.Walk.{AllKept, Walks}
 use Rattle.load.proofs.Invariant.{Walking, all-of-them, ended, stops, stops-with, takes}
 

@@ -1,5 +1,3 @@
--- coupons at regular periods
-pub mod Periods
 -- kind 7
 pub mod Options
 -- kind 8

@@ -2,8 +2,6 @@
 // before anything is written: a record that is refused changes nothing.
 pub mod coupons;
 pub mod curves;
-mod due;
 pub mod floating;
 pub mod option_add_on;
-mod schedule;
 pub mod single;

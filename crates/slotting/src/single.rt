@@ -4,7 +4,7 @@ ghost use Rattle.paper.specs.Decode.{decodeSingle};
 ghost use Rattle.record.specs.Answers.{Body};
 ghost use Rattle.posting.specs.Parts.{FlowParts};
 ghost use Rattle.posting.specs.Answers.{TakesFlows};
-use crate::due::slot_due;
+use due::amount::slot_due;
 use posting::Taken;
 use record::single::DecodedSingle;
 use record::single::decode_single;

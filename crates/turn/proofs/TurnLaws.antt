@@ -29,7 +29,8 @@ use Rattle.turn.specs.declared.Step.{Step}
 use Rattle.reader.specs.declared.Found.{Found}
 use Rattle.reader.specs.declared.Found.the-variants as found
 use Rattle.reader.specs.Reader.{standsAt}
-use Rattle.turn.specs.Step.{RecordTaken, faultAt, onTo, stopsWith, refusedFor, Stepped, Turned}
+use Rattle.lending.specs.Records.{RecordTaken}
+use Rattle.turn.specs.Step.{faultAt, onTo, stopsWith, refusedFor, Stepped, Turned}
 
 -- ---- an answer of the reader, back to the tests
 

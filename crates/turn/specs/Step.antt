@@ -8,32 +8,15 @@ use Rattle.laws.specs.Tests.{if_then_else_, _upTo_}
 use Rattle.paper.specs.declared.Fault.{Fault}
 use Rattle.paper.specs.Refusals.{Checked, accepted, refused}
 use Rattle.paper.specs.Records.{Record, currencies}
-use Rattle.paper.specs.Ledger.{SoFar}
 use Rattle.paper.specs.Book.{placed, admitted, recordAt, nextAt}
 use Rattle.arrays.specs.declared.masks.Masks.{Masks}
 use Rattle.arrays.specs.Masks.{marked}
-use Rattle.arrays.specs.Rooms.{soFarBy}
 use Rattle.arrays.specs.Arrays.{Arrays, withRecord}
-use Rattle.posting.specs.declared.Taken.{Taken}
-use Rattle.posting.specs.Answers.{takenOf, into}
+use Rattle.posting.specs.Answers.{into}
+use Rattle.lending.specs.Records.{tested}
 use Rattle.turn.specs.declared.Walked.{Walked}
 use Rattle.turn.specs.declared.Walked.the-variants.{All, Refused}
 use Rattle.turn.specs.declared.Step.{Step}
-
--- ---- a body, in the arrays
-
-pub record RecordTaken (read : Checked Record) (a : Arrays) (answer : Taken) (a' : Arrays) : Type 0 where
-  pub answered : answer ≡ takenOf read
-  pub arrays : a' ≡ into withRecord read a
-
--- what is tested against, by the mask of the currencies with a curve and by the sums
-abbrev pub tested : ℕ → Arrays → SoFar
-tested curved a = soFarBy curved (a .sizes) (a .optionSizes)
-
-abbrev pub TakesRecord : ℕ → ℕ → List ℕ → Arrays → Taken → Arrays → Type 0
-TakesRecord curved kind body a = RecordTaken (admitted currencies (tested curved a) kind body) a
-
--- ---- a turn
 
 -- where a fault is told: the paper's `placed`
 abbrev pub faultAt : ℕ → Fault → Fault

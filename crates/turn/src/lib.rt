@@ -1,28 +1,21 @@
-// One turn of the walk. Every kind's body begins with its currency: it is read once, before the kind is looked at, and that currency's parts of the five arrays are
-// lent on in one call.
+// One turn of the walk. Every kind's body begins with its currency: it is read once, before the kind is looked at, and that currency's parts of the arrays are lent on.
 ghost use mathlib.Core.Bool.{false};
 ghost use mathlib.Core.Path.{_≡_};
-ghost use Prim.Native.Nat.{_≤_};
 ghost use lib.ListN.{length};
 ghost use Rattle.paper.specs.Records.{currencies, bodyLength};
 ghost use Rattle.paper.specs.TurnedDown.{unknownKind};
 ghost use Rattle.arrays.specs.Arrays.{Holding};
 ghost use Rattle.arrays.specs.Lent.{lent, before, after};
-ghost use Rattle.record.specs.Answers.{Body};
 ghost use Rattle.reader.specs.Reader.{standsAt};
-ghost use Rattle.turn.specs.Step.{TakesRecord, StepsOver, Turns, faultAt, masksAs, onTo, stopsWith};
+ghost use Rattle.turn.specs.Step.{StepsOver, Turns, faultAt, masksAs, onTo, stopsWith};
 use arrays::masks::Masks;
-use arrays::masks::has_curve;
 use arrays::masks::marked;
 use fields::Field;
 use fields::currency_at;
 use kinds::curve_kind;
-use kinds::take_body;
+use lending::take_parts;
 use paper::Fault;
 use paper::Refusal;
-use paper::SCENARIOS;
-use paper::SECTION;
-use paper::SHOCKED;
 use posting::Taken;
 use reader::Found;
 
@@ -71,41 +64,6 @@ fn placed(fault: Fault, at: usize) -> Fault
 {
     let cause = fault.cause;
     Fault { cause, place: at }
-}
-
-fn take_parts(
-    kind: u8,
-    currency: u32,
-    curved: u32,
-    body: &[u8],
-    ledger: &mut [i64],
-    rates: &mut [i64],
-    addons: &mut [i64],
-    sizes: &mut [u64],
-    options: &mut [u64],
-) -> Taken
-    requires { ⌜ Body (bodyLength kind) currency (now body) × (1 ≤ currency) × (currency ≤ currencies) ⌝ }
-    requires { ⌜ Holding (record { used = 0; curved = curved }) (lent ledger rates addons sizes options) ⌝ }
-    ensures { λ r. ⌜ TakesRecord curved kind (now (body .entry)) (before ledger rates addons sizes options) r (after ledger rates addons sizes options) ⌝ }
-{
-    let part = currency as usize - 1;
-    let cell = SECTION * part;
-    let cells = cell + SECTION;
-    let six = SHOCKED * part;
-    let sixes = six + SHOCKED;
-    let size = SCENARIOS * part;
-    let sums = size + SCENARIOS;
-    take_body(
-        kind,
-        currency,
-        has_curve(curved, currency),
-        body,
-        &mut ledger[cell..cells],
-        &mut rates[cell..cells],
-        &mut addons[six..sixes],
-        &mut sizes[size..sums],
-        &mut options[six..sixes],
-    )
 }
 
 // A whole body of a known kind. A curve and a position go on apart, so that no record pays for choosing its mask.

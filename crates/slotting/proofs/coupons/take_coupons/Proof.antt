@@ -16,7 +16,7 @@ use Rattle.paper.proofs.KindTable.{coupons-kind}
 use Rattle.record.specs.declared.coupons.Coupons.{Coupons}
 use Rattle.record.specs.Answers.{couponsOf, couponsRead}
 use Rattle.posting.proofs.Admission.{flows-refused, flows-sound}
-use Rattle.slotting.proofs.Periods.{schedule-taken}
+use Rattle.due.proofs.Periods.{schedule-taken}
 use Rattle.slotting.proofs.coupons.take_coupons.Statement.{statement}
 use Rattle.slotting.proofs.coupons.take_coupons.Tie as tie
 

@@ -28,8 +28,8 @@ use Rattle.posting.specs.Parts.{FlowParts, Entered}
 use Rattle.posting.specs.Answers.{FlowsTaken}
 use Rattle.posting.proofs.Loops.{raised}
 use Rattle.posting.proofs.Admission.{entered-taken}
-use Rattle.slotting.specs.declared.schedule.Schedule.{Schedule}
-use Rattle.slotting.specs.Schedules.{startOf, scheduled, Regular, monthSeen}
+use Rattle.due.specs.declared.schedule.Schedule.{Schedule}
+use Rattle.due.specs.Schedules.{startOf, scheduled, Regular, monthSeen}
 
 -- the months by which a bucket ends, after those of the bucket before; no coupon is seen past 601
 unfoldable pub monthEnds : List ℕ

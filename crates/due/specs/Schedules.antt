@@ -4,7 +4,7 @@ use Rattle.laws.specs.Tests.{if_then_else_, _is_}
 use Rattle.paper.specs.Scales.{billion}
 use Rattle.paper.specs.Ladder.{Term}
 use Rattle.paper.specs.Flow.{due, couponsDue}
-use Rattle.slotting.specs.declared.schedule.Schedule.{Schedule}
+use Rattle.due.specs.declared.schedule.Schedule.{Schedule}
 
 abbrev pub startOf : Schedule → Term
 startOf s = record { months = s .months; days = s .days }

@@ -11,11 +11,11 @@ use Rattle.paper.specs.Flow.{couponsDue}
 use Rattle.posting.specs.Parts.{trillion}
 use Rattle.posting.proofs.Loops.{row-long, row-small, row-at}
 use Rattle.posting.proofs.Admission.{row-entered}
-use Rattle.slotting.specs.declared.schedule.Schedule.{Schedule}
-use Rattle.slotting.specs.Schedules.{startOf, scheduled}
-use Rattle.slotting.proofs.Periods.{amount-row, coupons-most, coupons-small, scheduled-small}
-use Rattle.slotting.proofs.schedule.slot_schedule.Statement.{statement}
-use Rattle.slotting.proofs.schedule.slot_schedule.Tie as tie
+use Rattle.due.specs.declared.schedule.Schedule.{Schedule}
+use Rattle.due.specs.Schedules.{startOf, scheduled}
+use Rattle.due.proofs.Periods.{amount-row, coupons-most, coupons-small, scheduled-small}
+use Rattle.due.proofs.schedule.slot_schedule.Statement.{statement}
+use Rattle.due.proofs.schedule.slot_schedule.Tie as tie
 
 -- what is known once the bucket of the amount is
 module _ (b : tie.After-bucket-of) where

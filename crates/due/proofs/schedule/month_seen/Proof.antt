@@ -2,9 +2,9 @@
 use native.Mathlib.Numerals.{add-one}
 use borrow.Author.Needs.{needs}
 use borrow.Author.Tests.{eq-eqb, ne-eqb}
-use Rattle.slotting.specs.Schedules.{monthSeen}
-use Rattle.slotting.proofs.schedule.month_seen.Statement.{statement}
-use Rattle.slotting.proofs.schedule.month_seen.Tie as tie
+use Rattle.due.specs.Schedules.{monthSeen}
+use Rattle.due.proofs.schedule.month_seen.Statement.{statement}
+use Rattle.due.proofs.schedule.month_seen.Tie as tie
 
 returns : tie.Need-returns
 unfolding monthSeen

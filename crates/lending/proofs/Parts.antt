@@ -22,7 +22,7 @@ use Rattle.arrays.proofs.More.{same-arrays}
 use Rattle.posting.specs.declared.Taken.{Taken}
 use Rattle.posting.specs.Answers.{into}
 use Rattle.kinds.specs.Bodies.{BodyTaken}
-use Rattle.turn.specs.Step.{RecordTaken}
+use Rattle.lending.specs.Records.{RecordTaken}
 
 -- the length of a part as the code lends it, from width * n up to width * n + width, counted
 part-long : (width n : ℕ) → width * n + width - width * n ≡ width

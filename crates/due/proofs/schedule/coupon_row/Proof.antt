@@ -10,11 +10,11 @@ use Rattle.laws.proofs.Lists.{tabulate-is}
 use Rattle.laws.proofs.Filling.{Filled, filled-none, filled-next}
 use Rattle.paper.specs.Ladder.{buckets}
 use Rattle.paper.specs.Flow.{couponsDue}
-use Rattle.slotting.specs.declared.schedule.Schedule.{Schedule}
-use Rattle.slotting.specs.Schedules.{startOf, monthSeen}
-use Rattle.slotting.proofs.Periods.{monthEnds, ends, coupons-in, due-ordered}
-use Rattle.slotting.proofs.schedule.coupon_row.Statement.{statement}
-use Rattle.slotting.proofs.schedule.coupon_row.Tie as tie
+use Rattle.due.specs.declared.schedule.Schedule.{Schedule}
+use Rattle.due.specs.Schedules.{startOf, monthSeen}
+use Rattle.due.proofs.Periods.{monthEnds, ends, coupons-in, due-ordered}
+use Rattle.due.proofs.schedule.coupon_row.Statement.{statement}
+use Rattle.due.proofs.schedule.coupon_row.Tie as tie
 
 -- what each bucket has, and how many are due by a month
 abbrev filling : Schedule → ℕ → ℕ

@@ -4,8 +4,8 @@ use mathlib.Core.Path.{_≡_}
 use native.Mathlib.Nat.{zero-div}
 use native.Mathlib.Omega.{arith}
 use borrow.Author.Needs.{needs}
-use Rattle.slotting.proofs.schedule.due_by.Statement.{statement}
-use Rattle.slotting.proofs.schedule.due_by.Tie as tie
+use Rattle.due.proofs.schedule.due_by.Statement.{statement}
+use Rattle.due.proofs.schedule.due_by.Tie as tie
 
 returns : tie.Need-returns
 returns c =

@@ -10,8 +10,8 @@ use Rattle.posting.proofs.Loops.{replicate-all}
 use Rattle.paper.proofs.Magnitudes.{abs-sided}
 use Rattle.posting.proofs.Limit.{entered, same-size}
 use Rattle.posting.proofs.Admission.{due-column}
-use Rattle.slotting.proofs.due.slot_due.Statement.{statement}
-use Rattle.slotting.proofs.due.slot_due.Tie as tie
+use Rattle.due.proofs.amount.slot_due.Statement.{statement}
+use Rattle.due.proofs.amount.slot_due.Tie as tie
 
 slice-aggregate-admits : tie.Need-slice-aggregate-admits
 slice-aggregate-admits c = search needs

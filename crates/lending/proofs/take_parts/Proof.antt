@@ -2,9 +2,9 @@
 use borrow.Author.Needs.{needs}
 use Rattle.arrays.specs.Arrays.{arraysAs}
 use Rattle.arrays.proofs.Bounds.{parts-hold}
-use Rattle.turn.proofs.Lending.{lent-hold, lent-taken}
-use Rattle.turn.proofs.take_parts.Statement.{statement}
-use Rattle.turn.proofs.take_parts.Tie as tie
+use Rattle.lending.proofs.Parts.{lent-hold, lent-taken}
+use Rattle.lending.proofs.take_parts.Statement.{statement}
+use Rattle.lending.proofs.take_parts.Tie as tie
 
 take-body-requires : tie.Need-take-body-requires
 take-body-requires c κs =

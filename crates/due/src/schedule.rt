@@ -7,7 +7,7 @@ ghost use Rattle.laws.specs.Lists.{tabulate};
 ghost use Rattle.paper.specs.Ladder.{buckets};
 ghost use Rattle.paper.specs.Flow.{couponsDue};
 ghost use Rattle.posting.specs.Parts.{FlowParts, Enters};
-ghost use Rattle.slotting.specs.Schedules.{startOf, scheduled, Regular, monthSeen};
+ghost use Rattle.due.specs.Schedules.{startOf, scheduled, Regular, monthSeen};
 use ladder::bucket_of;
 use paper::BUCKETS;
 use posting::Taken;

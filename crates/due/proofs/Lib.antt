@@ -1,0 +1,2 @@
+-- coupons at regular periods
+pub mod Periods

@@ -1,0 +1,2 @@
+-- a currency's parts, put back
+pub mod Parts
