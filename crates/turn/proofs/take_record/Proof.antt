@@ -1,17 +1,25 @@
 -- `take_record`: the currency is bad, the record refused, or taken.
 use Prim.Native.Nat.{ℕ}
-use mathlib.Core.Bool.{Bool}
+use mathlib.Core.Bool.{Bool, true, false}
 use mathlib.Core.List.{List}
 use mathlib.Core.Path.{_≡_, sym, ap, _∙_}
 use native.Mathlib.Omega.{arith}
 use borrow.Author.Needs.{needs}
+use Rattle.paper.specs.declared.Fault.{Fault}
 use Rattle.paper.specs.Refusals.{accepted}
-use Rattle.paper.specs.Records.{currencies}
+use Rattle.paper.specs.Records.{currencies, curveKind}
 use Rattle.paper.specs.Fields.{currencyAt}
+use Rattle.paper.specs.Book.{placed, admitted}
 use Rattle.paper.specs.Sound.{Between}
 use Rattle.paper.proofs.Checks.{known-of}
 use Rattle.paper.proofs.Ranges.{currency-known}
+use Rattle.arrays.specs.declared.masks.Masks.{Masks}
 use Rattle.arrays.specs.Masks.{markedBy}
+use Rattle.arrays.specs.Arrays.{Arrays, arraysAs}
+use Rattle.posting.specs.declared.Taken.the-variants as taken
+use Rattle.lending.specs.Records.{tested}
+use Rattle.turn.specs.declared.Step.{Step}
+use Rattle.turn.specs.Step.{Stepped, faultAt, refusedFor, onTo}
 use Rattle.fields.proofs.Reading.{value, bad}
 use Rattle.turn.proofs.TurnLaws.{known-long, curves-hold, stepped-bad, stepped-refused, stepped-done}
 use Rattle.turn.proofs.take_record.Statement.{statement}
@@ -30,6 +38,43 @@ module _ (c : tie.After-known-told) where
 
   range : Between 1 currencies currency
   range = known-of (currency-known body 0 currencies) currency first
+
+-- and once the record has been taken or refused
+module _ (t : tie.After-take-parts) where
+  abbrev read : tie.After-known-told
+  read = t .before .before .before .before .before .before
+
+  abbrev masks : Masks
+  masks = t .before .before .before .before .before .before .before .before .before .before .before .before .before .args .masks
+
+  abbrev found-before : Arrays
+  found-before =
+      let s = t .before .before .before .before .before .before .before .before .before .before .before .before .before .args in
+      arraysAs (s .ledger .now) (s .rates .now) (s .addons .now) (s .sizes .now) (s .options .now)
+
+  abbrev left-after : Arrays
+  left-after =
+      let l = t .take-parts .last .1 .1 .1 .1 in
+      arraysAs (l .0) (l .1 .0) (l .1 .1 .0) (l .1 .1 .1 .0) (l .1 .1 .1 .1 .0)
+
+  -- what an answer must be
+  abbrev Answers : Step → Type 0
+  Answers answer =
+      let s = t .before .before .before .before .before .before .before .before .before .before .before .before .before .args in
+      Stepped (placed (s .at) (admitted currencies (tested (masks .curved) found-before) (s .kind) (body read))) (s .next) masks found-before answer left-after
+
+  refused : (f : Fault) → t .take-parts .result ≡ taken.Refused f → Answers (refusedFor (faultAt (t .before .before .before .before .before .before .before .before .before .before .before .before .before .args .at) f))
+  refused f e =
+      let s = t .before .before .before .before .before .before .before .before .before .before .before .before .before in
+      stepped-refused (tested (masks .curved) found-before) (s .args .kind) (s .args .at) (s .args .next) 0 (body read) masks found-before (s .pre .1) f {a' = left-after} (t .take-parts .ensures) e
+
+  -- a curve and a position are marked apart
+  done : (b : Bool) → b ≡ curveKind (t .before .before .before .before .before .before .before .before .before .before .before .before .before .args .kind) → t .take-parts .result ≡ taken.Done → {m' : Masks} → m' ≡ markedBy b (currency read) masks
+      → Answers (onTo (t .before .before .before .before .before .before .before .before .before .before .before .before .before .args .next) m')
+  done b same e marks =
+      let s = t .before .before .before .before .before .before .before .before .before .before .before .before .before in
+      stepped-done (tested (masks .curved) found-before) (s .args .kind) (s .args .at) (s .args .next) (currency read) (body read) masks found-before (s .pre .1) (first read)
+      {a' = left-after} (t .take-parts .ensures) e (marks ∙ ap (λ (x : Bool). markedBy x (currency read) masks) same)
 
 currency-at-requires : tie.Need-currency-at-requires
 currency-at-requires c κs = let s = c .before .before .before in omega (arith, s .pre .0, known-long (s .args .kind) (s .pre .1))
@@ -100,11 +145,7 @@ same-length-5 c = search needs
 returns-2 : tie.Need-returns-2
 returns-2 c =
     let d = c .before .before .before in
-    let s = d .before .before .before .before .before .before .before .before .before .before .before .before .before .before .before .before .before .before .before .before .before .before .before in
-    let w = d .before .before .before .before .before .before .before .before .before .before .before .before .before .before .before .before in
-    rw (c .went-on .ensures)
-    (stepped-done _ (s .args .kind) (s .args .at) _ (currency w) _ _ _ (s .pre .1) (first w) (d .before .before .before .before .before .before .before .before .before .before .take-parts .ensures) (d .before .enum-told2 .given .1)
-    (c .before .marked .ensures ∙ ap (λ (b : Bool). markedBy b (currency w) (s .args .masks)) (sym (c .before .before .if1 .taken) ∙ d .curve-kind .ensures)))
+    rw (c .went-on .ensures) (done (d .before .before .before .before .before .before .before .before .before .before) true (sym (c .before .before .if1 .taken) ∙ d .curve-kind .ensures) (d .before .enum-told2 .given .1) (c .before .marked .ensures))
 
 marked-requires-2 : tie.Need-marked-requires-2
 marked-requires-2 c κs = let r = range (c .before .before .before .before .before .before .before .before .before .before .before .before .before .before .before .before .before) in (r .from, r .to)
@@ -129,9 +170,7 @@ same-length-10 c = search needs
 
 returns-3 : tie.Need-returns-3
 returns-3 c =
-    let s = c .before .before .before .before .before .before .before .before .before .before .before .before .before .before .before .before .before .before .before .before .before .before .before .before .before in
-    rw (c .stopped2 .ensures, c .before .placed2 .ensures)
-    (stepped-refused _ (s .args .kind) (s .args .at) _ 0 _ _ _ (s .pre .1) _ (c .before .before .before .before .before .before .before .before .before .before .before .before .take-parts .ensures) (c .before .before .before .fault2 .given .1))
+    rw (c .stopped2 .ensures, c .before .placed2 .ensures) (refused (c .before .before .before .before .before .before .before .before .before .before .before .before) _ (c .before .before .before .fault2 .given .1))
 
 same-length-11 : tie.Need-same-length-11
 same-length-11 c = search needs
@@ -151,11 +190,7 @@ same-length-15 c = search needs
 returns-4 : tie.Need-returns-4
 returns-4 c =
     let d = c .before .before .before in
-    let s = d .before .before .before .before .before .before .before .before .before .before .before .before .before .before .before .before .before .before .before .before .before .before .before in
-    let w = d .before .before .before .before .before .before .before .before .before .before .before .before .before .before .before .before in
-    rw (c .went-on2 .ensures)
-    (stepped-done _ (s .args .kind) (s .args .at) _ (currency w) _ _ _ (s .pre .1) (first w) (d .before .before .before .before .before .before .before .before .before .before .take-parts .ensures) (d .before .enum-told2 .given .1)
-    (c .before .marked2 .ensures ∙ ap (λ (b : Bool). markedBy b (currency w) (s .args .masks)) (sym (c .before .before .if1 .left) ∙ d .curve-kind .ensures)))
+    rw (c .went-on2 .ensures) (done (d .before .before .before .before .before .before .before .before .before .before) false (sym (c .before .before .if1 .left) ∙ d .curve-kind .ensures) (d .before .enum-told2 .given .1) (c .before .marked2 .ensures))
 
 pub take-record-spec : {M : Type 1} → statement M
 take-record-spec =
