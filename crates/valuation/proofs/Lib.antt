@@ -1,5 +1,3 @@
--- lists of figures: what they and their sums come to at most
-pub mod Figures
 -- figures filled currency by currency
 pub mod Currencies
 -- the changes and the tolerances of the first so many currencies

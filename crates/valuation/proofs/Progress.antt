@@ -17,8 +17,8 @@ use Rattle.paper.proofs.EmptyCurrency.{nothing-change, nothing-tolerance}
 use Rattle.change.specs.Figures.{tolerances, withFigures, mostOfAChange}
 use Rattle.change.proofs.Bounds.{change-most, tolerance-most}
 use Rattle.valuation.specs.Bounds.{Nothing, Bounds}
-use Rattle.valuation.specs.Figures.{Figures}
-use Rattle.valuation.proofs.Figures.{figures-of}
+use Rattle.verdict.specs.Figures.{Figures}
+use Rattle.verdict.proofs.Figures.{figures-of}
 use Rattle.valuation.proofs.Currencies.{UpTo, figures-none, figures-more, figures-skip, figures-all}
 
 -- a currency in which there is nothing has no change and no tolerance

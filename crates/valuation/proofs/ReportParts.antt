@@ -13,7 +13,7 @@ use Rattle.paper.specs.Flow.{shocked}
 use Rattle.paper.specs.Ledger.{figures}
 use Rattle.paper.specs.Verdict.{scenarioSum, measure, worst, changesOf, reportFrom}
 use Rattle.arrays.specs.Rooms.{listed}
-use Rattle.valuation.specs.Figures.{closing}
+use Rattle.valuation.specs.Closing.{closing}
 
 -- where the sums start
 abbrev n : ℕ

@@ -1,3 +1,3 @@
 pub mod Lengths
 pub mod Bounds
-pub mod Figures
+pub mod Closing

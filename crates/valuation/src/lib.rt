@@ -13,9 +13,7 @@ use paper::CHANGES;
 use paper::CURRENCIES;
 use scales::Thousands;
 
-mod measure;
 mod report;
-mod verdict;
 
 // The report of the ledger, the rates and the add-ons. A currency without a curve has nothing in it and is passed over.
 pub fn fill_report(

@@ -9,16 +9,17 @@ ghost use Rattle.paper.specs.Flow.{scenarios, shocked};
 ghost use Rattle.paper.specs.Ledger.{figures};
 ghost use Rattle.paper.specs.Verdict.{scenarioSum, measure, reportFrom};
 ghost use Rattle.arrays.specs.Rooms.{listed};
-ghost use Rattle.valuation.specs.Figures.{Figures, mostOfASum, closing};
-use crate::measure::Greatest;
-use crate::measure::greatest_sum;
-use crate::measure::scenario_sum;
-use crate::verdict::number_of;
-use crate::verdict::verdict_of;
+ghost use Rattle.verdict.specs.Figures.{Figures, mostOfASum};
+ghost use Rattle.valuation.specs.Closing.{closing};
 use paper::CHANGES;
 use paper::FIGURES;
 use paper::SHOCKED;
 use scales::Thousands;
+use verdict::measure::Greatest;
+use verdict::measure::greatest_sum;
+use verdict::measure::scenario_sum;
+use verdict::verdict::number_of;
+use verdict::verdict::verdict_of;
 
 // The six sums start where the changes end, and here the last four numbers.
 const CLOSING: usize = CHANGES + SHOCKED;

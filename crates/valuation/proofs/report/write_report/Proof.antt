@@ -5,7 +5,7 @@ use native.Mathlib.Omega.{arith}
 use Rattle.paper.specs.Records.{currencies}
 use Rattle.paper.specs.Verdict.{reportFrom}
 use Rattle.arrays.specs.Rooms.{listed}
-use Rattle.valuation.proofs.Figures.{measure-most, worst-most}
+use Rattle.verdict.proofs.Figures.{measure-most, worst-most}
 use Rattle.valuation.proofs.ReportParts.{report-written}
 use borrow.Author.Needs.{needs}
 use Rattle.valuation.proofs.report.write_report.Statement.{statement}

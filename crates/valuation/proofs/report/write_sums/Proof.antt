@@ -12,7 +12,7 @@ use Rattle.paper.specs.Records.{currencies}
 use Rattle.paper.specs.Flow.{shocked}
 use Rattle.paper.specs.Verdict.{scenarioSum}
 use Rattle.arrays.specs.Rooms.{listed}
-use Rattle.valuation.proofs.Figures.{scenario-sum-most}
+use Rattle.verdict.proofs.Figures.{scenario-sum-most}
 use Rattle.valuation.proofs.report.write_sums.Statement.{statement}
 use Rattle.valuation.proofs.report.write_sums.Tie as tie
 

@@ -19,7 +19,7 @@ use Rattle.paper.specs.Flow.{scenarios, shocked}
 use Rattle.paper.specs.Verdict.{scenarioSum, measure, worst, changesOf}
 use Rattle.arrays.specs.Rooms.{listed}
 use Rattle.change.specs.Figures.{mostOfAChange}
-use Rattle.valuation.specs.Figures.{mostOfASum, Figures}
+use Rattle.verdict.specs.Figures.{mostOfASum, Figures}
 
 -- currency c + 1, as a loop from 0 has it
 pub listed-at : (list : List ℤ) (c i : ℕ) → listed list (suc c) i ≡ getD list (shocked * c + (i - 1)) (pos 0)

@@ -3,7 +3,7 @@ ghost use mathlib.Core.Path.{_≡_};
 ghost use Prim.Native.Nat.{_≤_};
 ghost use lib.IntN.{pos};
 ghost use Rattle.paper.specs.Verdict.{verdict, verdictNumber};
-ghost use Rattle.valuation.specs.Figures.{mostOfASum};
+ghost use Rattle.verdict.specs.Figures.{mostOfASum};
 use paper::Verdict;
 use scales::Thousands;
 

@@ -9,8 +9,8 @@ use Rattle.paper.specs.Flow.{shocked}
 use Rattle.paper.specs.Verdict.{scenarioSum, measure, worst}
 use Rattle.arrays.specs.Rooms.{listed}
 use Rattle.laws.proofs.Scan.{reaching, Scanned, scanned-none, scanned-greater, scanned-same}
-use Rattle.valuation.proofs.measure.greatest_sum.Statement.{statement}
-use Rattle.valuation.proofs.measure.greatest_sum.Tie as tie
+use Rattle.verdict.proofs.measure.greatest_sum.Statement.{statement}
+use Rattle.verdict.proofs.measure.greatest_sum.Tie as tie
 
 abbrev Inv-loop : tie.InvT-loop
 Inv-loop changes greatest₀ reached₀ i₀ greatest reached i = (i ≤ shocked) × Scanned (scenarioSum currencies (listed changes)) i (greatest .0) reached

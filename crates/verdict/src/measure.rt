@@ -6,7 +6,7 @@ ghost use Rattle.paper.specs.Records.{currencies};
 ghost use Rattle.paper.specs.Flow.{shocked};
 ghost use Rattle.paper.specs.Verdict.{scenarioSum, measure, worst};
 ghost use Rattle.arrays.specs.Rooms.{listed};
-ghost use Rattle.valuation.specs.Figures.{Figures};
+ghost use Rattle.verdict.specs.Figures.{Figures};
 use paper::CURRENCIES;
 use paper::SHOCKED;
 use scales::SignedThousands;

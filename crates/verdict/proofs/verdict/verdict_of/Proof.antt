@@ -12,9 +12,9 @@ use borrow.Author.Needs.{needs}
 use Rattle.laws.proofs.Widths.{Small, small-pos, small-le, small-add, small-sub, small-mul, small-fits}
 use Rattle.paper.specs.declared.Verdict.the-variants.{Over, Within, Close}
 use Rattle.paper.specs.Verdict.{verdict}
-use Rattle.valuation.specs.Figures.{mostOfASum}
-use Rattle.valuation.proofs.verdict.verdict_of.Statement.{statement}
-use Rattle.valuation.proofs.verdict.verdict_of.Tie as tie
+use Rattle.verdict.specs.Figures.{mostOfASum}
+use Rattle.verdict.proofs.verdict.verdict_of.Statement.{statement}
+use Rattle.verdict.proofs.verdict.verdict_of.Tie as tie
 
 -- the verdict by its two tests
 module _ (m u T : ℕ) where

@@ -8,8 +8,8 @@ use mir.Val.{SFits}
 use Rattle.laws.specs.Integers.{up, down}
 use Rattle.laws.proofs.Integers.{abs-is}
 use Rattle.laws.proofs.Widths.{nonneg-of, test-below, test-not-below, magnitude-fits}
-use Rattle.valuation.proofs.measure.positive.Statement.{statement}
-use Rattle.valuation.proofs.measure.positive.Tie as tie
+use Rattle.verdict.proofs.measure.positive.Statement.{statement}
+use Rattle.verdict.proofs.measure.positive.Tie as tie
 
 module _ (c : tie.After-struct-told) where
   abbrev z : ℤ

@@ -4,8 +4,8 @@ use lib.IntN.{pos}
 use borrow.Author.Needs.{needs}
 use Rattle.paper.specs.declared.Verdict.{Verdict}
 use Rattle.paper.specs.Verdict.{verdictNumber}
-use Rattle.valuation.proofs.verdict.number_of.Statement.{statement}
-use Rattle.valuation.proofs.verdict.number_of.Tie as tie
+use Rattle.verdict.proofs.verdict.number_of.Statement.{statement}
+use Rattle.verdict.proofs.verdict.number_of.Tie as tie
 
 enum-told : tie.Need-enum-told
 enum-told c = search needs

@@ -14,9 +14,9 @@ use Rattle.paper.specs.Records.{currencies}
 use Rattle.paper.specs.Flow.{shocked}
 use Rattle.paper.specs.Verdict.{scenarioSum}
 use Rattle.arrays.specs.Rooms.{listed}
-use Rattle.valuation.proofs.Figures.{listed-at, losses-most}
-use Rattle.valuation.proofs.measure.scenario_sum.Statement.{statement}
-use Rattle.valuation.proofs.measure.scenario_sum.Tie as tie
+use Rattle.verdict.proofs.Figures.{listed-at, losses-most}
+use Rattle.verdict.proofs.measure.scenario_sum.Statement.{statement}
+use Rattle.verdict.proofs.measure.scenario_sum.Tie as tie
 
 abbrev Inv-loop : tie.InvT-loop
 Inv-loop changes scenario total₀ c₀ total c = (c ≤ currencies) × (total .0 ≡ sum (λ d. up (listed changes (suc d) scenario)) c)
