@@ -1,27 +1,20 @@
--- Kind 5: one bucket's arithmetic, what the balances are bounded by, and the flows of a scenario.
+-- Kind 5: one bucket's arithmetic, and what the balances are bounded by.
 use Prim.Native.Nat.{ℕ, zero, suc, _+_, _-_, _≤_, _<_}
 use mathlib.Core.Bool.{Bool, false, _&&_}
 use mathlib.Core.List.{List}
-use mathlib.Core.Path.{_≡_, refl, sym, ap, _∙_}
+use mathlib.Core.Path.{_≡_, sym, ap, _∙_}
 use native.Mathlib.Nat.{le-refl}
 use native.Mathlib.Omega.{arith}
-use lib.IntN.{pos}
 use lib.ListN.{length, getD}
 use borrow.Author.Tests.{lt-ltb, eqb-false}
 use Rattle.laws.specs.Tests.{_is_, _below_}
 use Rattle.laws.specs.Sums.{sum, sumOf}
-use Rattle.laws.proofs.Sums.{sum-add, sum-le, sum-mono, sum-upto}
+use Rattle.laws.proofs.Sums.{sum-add, sum-le, sum-mono}
 use Rattle.laws.proofs.Totals.{sum-getD, sum-drop}
-use Rattle.paper.specs.Scales.{billion}
 use Rattle.paper.specs.Ladder.{buckets}
-use Rattle.paper.specs.Records.{loan, flows}
-use Rattle.paper.specs.Behaviour.{prepaymentRate, paid, prepaid, interest, outstandingAt, scheduledAt, paidAt, prepaidAt, interestAt, loanFlow}
-use Rattle.paper.specs.Flow.{sided, flowOf, flow, magnitude}
+use Rattle.paper.specs.Behaviour.{paid, prepaid, interest, outstandingAt, scheduledAt, paidAt, prepaidAt, interestAt, loanFlow}
 use Rattle.paper.specs.TurnedDown.{interestAlone}
 use Rattle.paper.proofs.Loan.{taken-so-far, on-schedule, interest-at-most}
-use Rattle.paper.specs.Sound.{SoundFlows}
-use Rattle.behaviour.specs.Rows.{SoundSchedule}
-use Rattle.behaviour.proofs.AmountRange.{amounts-small}
 
 -- where interest is due, something is scheduled
 pub not-alone : (scheduled remaining : ℕ) → (0 below scheduled && remaining is 0) ≡ false → 0 < scheduled → 0 < remaining
@@ -81,25 +74,3 @@ module _ (rate : ℕ) (principals interests : List ℕ) where
     pub none-alone-here : interestAlone principals interests k ≡ false → (0 below charge && remaining is 0) ≡ false
     unfolding interestAlone
     none-alone-here t = rw (b .charge-is, b .remaining-is) t
-
--- ---- the record's flows and magnitudes
-
-module _ (c share : ℕ) (principals interests : List ℕ) where
-  pub loan-flow : (i k : ℕ) → sided 1 (pos (loanFlow (prepaymentRate share i) principals interests k)) ≡ flow (flows c (loan share principals interests)) i k
-  unfolding sided flow flowOf
-  loan-flow i k = refl
-
-  pub loan-size : (i : ℕ) → sum (loanFlow (prepaymentRate share i) principals interests) buckets ≡ magnitude (flows c (loan share principals interests)) i
-  unfolding magnitude flow flowOf
-  loan-size i = refl
-
--- each flow is within its scenario's sum, and that within what is scheduled
-pub loan-small : (principals interests : List ℕ) → length interests ≤ buckets → SoundSchedule principals interests → (rate : ℕ)
-    → (sum (loanFlow rate principals interests) buckets ≤ billion) × ((k : ℕ) → k < buckets → loanFlow rate principals interests k ≤ billion)
-loan-small principals interests few sound rate =
-    let all = loan-sum rate principals interests buckets (le-refl buckets) few in
-    (omega (arith, sound .all-small), λ k l. omega (arith, all, sum-upto (loanFlow rate principals interests) k buckets l, sound .all-small))
-
-pub schedule-of : (share : ℕ) (principals interests : List ℕ) → SoundFlows (loan share principals interests) → SoundSchedule principals interests
-unfolding SoundFlows
-schedule-of share principals interests h = record { principals-small = amounts-small (h .1); interests-small = amounts-small (h .2); none-alone = h .3; all-small = h .4 }

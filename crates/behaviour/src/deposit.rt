@@ -6,23 +6,15 @@ ghost use Rattle.laws.specs.Sums.{sumOf};
 ghost use Rattle.laws.specs.Lists.{tabulate};
 ghost use Rattle.paper.specs.Scales.{billion};
 ghost use Rattle.paper.specs.Ladder.{buckets};
-ghost use Rattle.paper.specs.Records.{currencies};
 ghost use Rattle.paper.specs.Behaviour.{depositFlow};
-ghost use Rattle.paper.specs.Decode.{decodeDeposit};
 ghost use Rattle.fields.specs.Answers.{amountsFrom};
-ghost use Rattle.record.specs.Answers.{Body};
-ghost use Rattle.posting.specs.Parts.{AtMost, FlowParts};
-ghost use Rattle.posting.specs.Answers.{TakesFlows};
+ghost use Rattle.posting.specs.Parts.{AtMost};
 use crate::amounts::amount_of;
 use crate::amounts::sum_from;
 use paper::BUCKETS;
-use posting::Taken;
-use posting::flows::enter_row;
-use record::deposit::DecodedDeposit;
-use record::deposit::decode_deposit;
 use scales::Thousands;
 
-fn core_row(body: &[u8], total: Thousands, row: &mut [u64])
+pub fn core_row(body: &[u8], total: Thousands, row: &mut [u64])
     requires { ⌜ (length (now body) ≡ 82) × (total .0 ≤ billion) × (length (now row) ≡ buckets) ⌝ }
     requires { ⌜ AtMost billion (amountsFrom (now body) 6) × (sumOf (amountsFrom (now body) 6) ≤ total .0) ⌝ }
     ensures { λ _. ⌜ now (row .exit) ≡ tabulate (depositFlow (total .0) (amountsFrom (now (body .entry)) 6)) buckets ⌝ }
@@ -33,19 +25,4 @@ fn core_row(body: &[u8], total: Thousands, row: &mut [u64])
         k += 1;
     }
     row[0] += total.0 - sum_from(body, 6).0;
-}
-
-pub fn take_deposit(currency: u32, body: &[u8], section: &mut [i64], sizes: &mut [u64]) -> Taken
-    requires { ⌜ Body 82 currency (now body) ⌝ }
-    requires { ⌜ FlowParts (now section) (now sizes) ⌝ }
-    ensures { λ r. ⌜ TakesFlows (decodeDeposit currencies (now (body .entry))) section sizes r ⌝ }
-{
-    match decode_deposit(currency, body) {
-        DecodedDeposit::Refused(fault) => Taken::Refused(fault),
-        DecodedDeposit::Is(deposit) => {
-            let mut row = [0u64; BUCKETS];
-            core_row(body, deposit.total, &mut row);
-            enter_row(&row, 2, deposit.total, section, sizes)
-        }
-    }
 }

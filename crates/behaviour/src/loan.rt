@@ -8,24 +8,14 @@ ghost use Rattle.laws.specs.Sums.{sum, sumOf};
 ghost use Rattle.laws.specs.Lists.{tabulate};
 ghost use Rattle.paper.specs.Scales.{billion};
 ghost use Rattle.paper.specs.Ladder.{buckets};
-ghost use Rattle.paper.specs.Records.{currencies};
 ghost use Rattle.paper.specs.Behaviour.{wholeRate, paid, prepaid, interest, loanFlow};
-ghost use Rattle.paper.specs.Decode.{decodeLoan};
 ghost use Rattle.fields.specs.Answers.{amountsFrom};
-ghost use Rattle.record.specs.Answers.{Body};
-ghost use Rattle.posting.specs.Parts.{FlowParts};
-ghost use Rattle.posting.specs.Answers.{TakesFlows};
 ghost use Rattle.behaviour.specs.Rows.{SoundSchedule, loanRows, loanSums};
 use crate::amounts::amount_of;
 use crate::amounts::sum_from;
 use crate::rates::RATES;
-use crate::rates::ROWS;
 use crate::rates::rates_of;
 use paper::BUCKETS;
-use posting::Taken;
-use posting::flows::enter_rows;
-use record::loan::DecodedLoan;
-use record::loan::decode_loan;
 use scales::Thousands;
 
 // A bucket's flow, and what is outstanding after it.
@@ -115,7 +105,7 @@ fn loan_row(body: &[u8], rate: u64, principal: Thousands, row: &mut [u64]) -> Th
 }
 
 // The rows of the three rates, and the sum of each.
-fn loan_rows(body: &[u8], share: u32, rows: &mut [u64], sums: &mut [u64])
+pub fn loan_rows(body: &[u8], share: u32, rows: &mut [u64], sums: &mut [u64])
     requires { ⌜ (length (now body) ≡ 155) × (share ≤ 10000) × (length (now rows) ≡ buckets * 3) × (length (now sums) ≡ 3) ⌝ }
     requires { ⌜ SoundSchedule (amountsFrom (now body) 3) (amountsFrom (now body) 79) ⌝ }
     ensures { λ _. ⌜ now (rows .exit) ≡ loanRows share (now (body .entry)) ⌝ }
@@ -130,23 +120,5 @@ fn loan_rows(body: &[u8], share: u32, rows: &mut [u64], sums: &mut [u64])
         let to = from + BUCKETS;
         sums[i] = loan_row(body, rate, principal, &mut rows[from..to]).0;
         i += 1;
-    }
-}
-
-pub fn take_loan(currency: u32, body: &[u8], section: &mut [i64], sizes: &mut [u64]) -> Taken
-    requires { ⌜ Body 155 currency (now body) ⌝ }
-    requires { ⌜ FlowParts (now section) (now sizes) ⌝ }
-    ensures { λ r. ⌜ TakesFlows (decodeLoan currencies (now (body .entry))) section sizes r ⌝ }
-{
-    match decode_loan(currency, body) {
-        DecodedLoan::Refused(fault) => Taken::Refused(fault),
-        DecodedLoan::Is(loan) => {
-            // Which of the three rates each scenario has (001, table 5).
-            let which = [0usize, 1, 2, 1, 2, 1, 2];
-            let mut rows = [0u64; ROWS];
-            let mut sums = [0u64; RATES];
-            loan_rows(body, loan.share, &mut rows, &mut sums);
-            enter_rows(&rows, &which, 1, &sums, section, sizes)
-        }
     }
 }

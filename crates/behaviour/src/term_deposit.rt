@@ -5,24 +5,14 @@ ghost use lib.ListN.{length};
 ghost use Rattle.laws.specs.Lists.{tabulate};
 ghost use Rattle.paper.specs.Scales.{billion};
 ghost use Rattle.paper.specs.Ladder.{buckets};
-ghost use Rattle.paper.specs.Records.{currencies};
 ghost use Rattle.paper.specs.Behaviour.{wholeRate, moved, termDepositFlow};
-ghost use Rattle.paper.specs.Decode.{decodeTermDeposit};
 ghost use Rattle.fields.specs.Answers.{amountsFrom};
-ghost use Rattle.record.specs.Answers.{Body};
-ghost use Rattle.posting.specs.Parts.{AtMost, FlowParts};
-ghost use Rattle.posting.specs.Answers.{TakesFlows};
+ghost use Rattle.posting.specs.Parts.{AtMost};
 ghost use Rattle.behaviour.specs.Rows.{termDepositRows};
 use crate::amounts::amount_of;
-use crate::amounts::sum_from;
 use crate::rates::RATES;
-use crate::rates::ROWS;
 use crate::rates::rates_of;
 use paper::BUCKETS;
-use posting::Taken;
-use posting::flows::enter_rows;
-use record::term_deposit::DecodedTermDeposit;
-use record::term_deposit::decode_term_deposit;
 use scales::Thousands;
 
 fn moved(rate: u64, amount: Thousands) -> Thousands
@@ -51,7 +41,7 @@ fn withdrawn(body: &[u8], rate: u64, row: &mut [u64])
 }
 
 // The rows of the three rates.
-fn withdrawn_rows(body: &[u8], share: u32, rows: &mut [u64])
+pub fn withdrawn_rows(body: &[u8], share: u32, rows: &mut [u64])
     requires { ⌜ (length (now body) ≡ 79) × (share ≤ 10000) × (length (now rows) ≡ buckets * 3) ⌝ }
     requires { ⌜ AtMost billion (amountsFrom (now body) 3) ⌝ }
     ensures { λ _. ⌜ now (rows .exit) ≡ termDepositRows share (now (body .entry)) ⌝ }
@@ -64,28 +54,5 @@ fn withdrawn_rows(body: &[u8], share: u32, rows: &mut [u64])
         let to = from + BUCKETS;
         withdrawn(body, rate, &mut rows[from..to]);
         i += 1;
-    }
-}
-
-pub fn take_term_deposit(
-    currency: u32,
-    body: &[u8],
-    section: &mut [i64],
-    sizes: &mut [u64],
-) -> Taken
-    requires { ⌜ Body 79 currency (now body) ⌝ }
-    requires { ⌜ FlowParts (now section) (now sizes) ⌝ }
-    ensures { λ r. ⌜ TakesFlows (decodeTermDeposit currencies (now (body .entry))) section sizes r ⌝ }
-{
-    match decode_term_deposit(currency, body) {
-        DecodedTermDeposit::Refused(fault) => Taken::Refused(fault),
-        DecodedTermDeposit::Is(deposit) => {
-            // Which of the three rates each scenario has (001, table 6).
-            let which = [0usize, 2, 1, 1, 2, 2, 1];
-            let mut rows = [0u64; ROWS];
-            withdrawn_rows(body, deposit.share, &mut rows);
-            let sums = [sum_from(body, 3).0; RATES];
-            enter_rows(&rows, &which, 2, &sums, section, sizes)
-        }
     }
 }

@@ -13,10 +13,10 @@ use Rattle.paper.proofs.Magnitudes.{size-term-deposit}
 use Rattle.fields.specs.Answers.{amountsFrom}
 use Rattle.record.specs.Answers.{termDepositOf, termDepositRead}
 use Rattle.posting.specs.Parts.{trillion}
 use Rattle.behaviour.specs.Rows.{threeMultipliers}
 use Rattle.posting.proofs.Loops.{replicate-all, row-long, row-small}
-use Rattle.behaviour.proofs.Rows.{byPlace, rows-taken, tied, tied-within, tied-rate}
-use Rattle.behaviour.proofs.DepositRows.{withdrawn-small, withdrawn-flow}
+use Rattle.portfolio.proofs.Rows.{byPlace, rows-taken, tied, tied-within, tied-rate}
+use Rattle.portfolio.proofs.RecordFlows.{withdrawn-small, withdrawn-flow}
 use mathlib.Core.Bool.{true, false}
 use mathlib.Core.List.{List, [], _∷_}
 use mathlib.Core.Path.{_≡_, refl, sym, ap, _∙_}
@@ -28,9 +28,9 @@ use Rattle.paper.specs.Sound.{SoundFlows}
 use Rattle.paper.proofs.KindTable.{term-deposit-kind}
 use Rattle.record.specs.declared.term_deposit.TermDeposit.{TermDeposit}
 use Rattle.posting.proofs.Admission.{flows-refused, flows-sound}
 use Rattle.behaviour.proofs.AmountRange.{amounts-few, amounts-small}
-use Rattle.behaviour.proofs.term_deposit.take_term_deposit.Statement.{statement}
-use Rattle.behaviour.proofs.term_deposit.take_term_deposit.Tie as tie
+use Rattle.portfolio.proofs.term_deposit.take_term_deposit.Statement.{statement}
+use Rattle.portfolio.proofs.term_deposit.take_term_deposit.Tie as tie
 
 -- what is known once the body has been read
 module _ (c : tie.After-known-told2) where

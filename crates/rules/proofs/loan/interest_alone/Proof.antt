@@ -5,9 +5,9 @@ use mathlib.Core.Path.{_≡_, sym, ap, _∙_}
 use native.Mathlib.Omega.{arith}
 use borrow.Author.Needs.{needs}
 use Rattle.laws.specs.Tests.{_is_, _below_}
-use Rattle.record.proofs.LoanLaws.{Passed, passed-none, passed-covers, passed-more, passed-stops, passed-ends}
-use Rattle.record.proofs.loan.interest_alone.Statement.{statement}
-use Rattle.record.proofs.loan.interest_alone.Tie as tie
+use Rattle.rules.proofs.LoanLaws.{Passed, passed-none, passed-covers, passed-more, passed-stops, passed-ends}
+use Rattle.rules.proofs.loan.interest_alone.Statement.{statement}
+use Rattle.rules.proofs.loan.interest_alone.Tie as tie
 
 abbrev Inv-loop : tie.InvT-loop
 Inv-loop body scheduled₀ k₀ scheduled k = (k ≤ 19) × Passed body k (scheduled .0)

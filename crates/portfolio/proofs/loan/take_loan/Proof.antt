@@ -11,10 +11,10 @@ use Rattle.paper.specs.Decode.{decodeLoan}
 use Rattle.fields.specs.Answers.{amountsFrom}
 use Rattle.record.specs.Answers.{loanOf, loanRead}
 use Rattle.posting.specs.Parts.{trillion}
 use Rattle.behaviour.specs.Rows.{threeMultipliers}
 use Rattle.posting.proofs.Loops.{row-at, row-long, row-small}
-use Rattle.behaviour.proofs.Rows.{byPlace, rows-taken, tied, tied-within, tied-rate}
-use Rattle.behaviour.proofs.Prepayment.{loan-flow, loan-size, loan-small, schedule-of}
+use Rattle.portfolio.proofs.Rows.{byPlace, rows-taken, tied, tied-within, tied-rate}
+use Rattle.portfolio.proofs.RecordFlows.{loan-flow, loan-size, loan-small, schedule-of}
 use mathlib.Core.Bool.{true, false}
 use mathlib.Core.List.{List, [], _∷_}
 use mathlib.Core.Path.{_≡_, refl, sym, ap, _∙_}
@@ -26,9 +26,9 @@ use Rattle.paper.specs.Sound.{SoundFlows}
 use Rattle.paper.proofs.KindTable.{loan-kind}
 use Rattle.record.specs.declared.loan.Loan.{Loan}
 use Rattle.posting.proofs.Admission.{flows-refused, flows-sound}
 use Rattle.behaviour.proofs.AmountRange.{amounts-few}
-use Rattle.behaviour.proofs.loan.take_loan.Statement.{statement}
-use Rattle.behaviour.proofs.loan.take_loan.Tie as tie
+use Rattle.portfolio.proofs.loan.take_loan.Statement.{statement}
+use Rattle.portfolio.proofs.loan.take_loan.Tie as tie
 
 -- what is known once the body has been read
 module _ (c : tie.After-known-told2) where

@@ -5,9 +5,9 @@ use mathlib.Core.Path.{_≡_, ap}
 use native.Mathlib.Omega.{arith}
 use borrow.Author.Needs.{needs}
 use lib.ListN.{getD}
-use Rattle.record.proofs.DepositLaws.{Weighed, weighed-none, weighed-more, weighed-ends}
-use Rattle.record.proofs.deposit.weighed_core.Statement.{statement}
-use Rattle.record.proofs.deposit.weighed_core.Tie as tie
+use Rattle.rules.proofs.DepositLaws.{Weighed, weighed-none, weighed-more, weighed-ends}
+use Rattle.rules.proofs.deposit.weighed_core.Statement.{statement}
+use Rattle.rules.proofs.deposit.weighed_core.Tie as tie
 
 abbrev Inv-loop : tie.InvT-loop
 Inv-loop body middles weighed₀ k₀ weighed k = (k ≤ 19) × Weighed body k weighed

@@ -4,8 +4,8 @@ use mathlib.Core.Path.{sym}
 use native.Mathlib.Omega.{arith}
 use borrow.Author.Tests.{eq-eqb, ne-eqb}
 use Rattle.laws.specs.Tests.{_below_}
-use Rattle.record.proofs.loan.alone.Statement.{statement}
-use Rattle.record.proofs.loan.alone.Tie as tie
+use Rattle.rules.proofs.loan.alone.Statement.{statement}
+use Rattle.rules.proofs.loan.alone.Tie as tie
 
 returns : tie.Need-returns
 returns c =

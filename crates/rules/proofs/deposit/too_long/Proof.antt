@@ -5,8 +5,8 @@ use native.Mathlib.Nat.{mul-le-mul-right}
 use native.Mathlib.Omega.{arith}
 use borrow.Author.Needs.{needs}
 use Rattle.laws.specs.Tests.{_below_}
-use Rattle.record.proofs.deposit.too_long.Statement.{statement}
-use Rattle.record.proofs.deposit.too_long.Tie as tie
+use Rattle.rules.proofs.deposit.too_long.Statement.{statement}
+use Rattle.rules.proofs.deposit.too_long.Tie as tie
 
 mul-result : tie.Need-mul-result
 mul-result c =

@@ -1,9 +1,9 @@
 -- `cap_of` meets its contract, category by category.
 use mathlib.Core.Path.{sym}
 use borrow.Author.Needs.{needs}
-use Rattle.record.proofs.DepositLaws.{uncapped}
-use Rattle.record.proofs.deposit.cap_of.Statement.{statement}
-use Rattle.record.proofs.deposit.cap_of.Tie as tie
+use Rattle.rules.proofs.DepositLaws.{uncapped}
+use Rattle.rules.proofs.deposit.cap_of.Statement.{statement}
+use Rattle.rules.proofs.deposit.cap_of.Tie as tie
 
 returns-4 : tie.Need-returns-4
 returns-4 c =

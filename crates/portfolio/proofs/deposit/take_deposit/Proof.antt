@@ -10,7 +10,7 @@ use Rattle.record.specs.Answers.{depositOf, depositRead}
 use Rattle.posting.specs.Parts.{trillion}
 use Rattle.posting.proofs.Loops.{row-long, row-small}
 use Rattle.posting.proofs.Admission.{row-taken}
-use Rattle.behaviour.proofs.DepositRows.{core-small, core-flow}
+use Rattle.portfolio.proofs.RecordFlows.{core-small, core-flow}
 use mathlib.Core.Bool.{false}
 use mathlib.Core.List.{List}
 use mathlib.Core.Path.{_≡_, refl, sym, ap, _∙_}
@@ -23,9 +23,9 @@ use Rattle.paper.proofs.Ranges.{core-within}
 use Rattle.paper.proofs.KindTable.{deposit-kind}
 use Rattle.record.specs.declared.deposit.Deposit.{Deposit}
 use Rattle.posting.proofs.Admission.{flows-refused, flows-sound}
 use Rattle.behaviour.proofs.AmountRange.{amounts-few, amounts-small}
-use Rattle.behaviour.proofs.deposit.take_deposit.Statement.{statement}
-use Rattle.behaviour.proofs.deposit.take_deposit.Tie as tie
+use Rattle.portfolio.proofs.deposit.take_deposit.Statement.{statement}
+use Rattle.portfolio.proofs.deposit.take_deposit.Tie as tie
 
 -- what is known once the body has been read
 module _ (c : tie.After-known-told2) where
