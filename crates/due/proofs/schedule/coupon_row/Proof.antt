@@ -1,5 +1,5 @@
 -- The buckets passed have their coupons; `before` counts those due by the end of the last of them.
-use Prim.Native.Nat.{ℕ, suc, _+_, _*_, _-_, _/_, _≤_, min}
+use Prim.Native.Nat.{ℕ, suc, _*_, _-_, _/_, _≤_, min}
 use mathlib.Core.Path.{_≡_, sym, ap, ap₂, _∙_}
 use native.Mathlib.Nat.{zero-div, mul-le-mul, mul-le-mul-right}
 use native.Mathlib.Numerals.{add-one}
