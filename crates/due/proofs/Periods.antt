@@ -110,7 +110,7 @@ seen-later t m = by (t .days is 0)
     by true = refl
     by false = omega arith
 
-pub seen-most : (t : Term) → monthSeen t ≤ suc (t .months)
+seen-most : (t : Term) → monthSeen t ≤ suc (t .months)
 unfolding monthSeen
 seen-most t = by (t .days is 0)
   where
@@ -119,7 +119,7 @@ seen-most t = by (t .days is 0)
     by false = omega arith
 
 -- how many of the first n coupons fall past the month s up to the month e
-abbrev pub between : (period s e n : ℕ) → ℕ
+abbrev between : (period s e n : ℕ) → ℕ
 between period s e n = min n (e / period) - min n (s / period)
 
 -- one coupon more: it falls there or not
