@@ -1,5 +1,5 @@
--- How many coupons fall into a bucket, by division on its ends; and a record whose flows are coupons and one amount due.
-use Prim.Native.Nat.{ℕ, zero, suc, _+_, _*_, _-_, _/_, _%_, _≤_, _<_, min}
+-- How many coupons fall into a bucket, by division on its ends; and what coupons and one amount due come to.
+use Prim.Native.Nat.{ℕ, zero, suc, _+_, _*_, _-_, _/_, _≤_, _<_, min}
 use mathlib.Core.Bool.{Bool, true, false, not, _&&_, _||_}
 use mathlib.Core.List.{List, [], _∷_}
 use mathlib.Core.Logic.{_⊎_, inl, inr, ⊎-elim}
@@ -7,7 +7,6 @@ use mathlib.Core.Path.{_≡_, refl, sym, ap, ap₂, _∙_}
 use native.Mathlib.Decide.{ℕ-discrete}
 use native.Mathlib.Nat.{le-trans, mul-le-mul, mul-le-mul-left, mul-le-mul-right, mul-div-le, le-div-iff-mul-le, div-lt-iff-lt-mul}
 use native.Mathlib.Omega.{arith}
-use lib.IntN.{ℤ, pos}
 use lib.ListN.{length, getD, set}
 use borrow.Author.Tests.{not-true, eqb-true, ltb-true, leb-true, leb-false, lt-ltb, le-ltb, le-leb, lt-leb, eq-eqb, ne-eqb}
 use Rattle.laws.specs.Tests.{if_then_else_, _is_, _upTo_, _below_, all, first}
@@ -16,18 +15,12 @@ use Rattle.laws.specs.Lists.{tabulate}
 use Rattle.laws.proofs.Lists.{tabulate-length, tabulate-at, tabulate-ext}
 use Rattle.laws.proofs.Sums.{sum-ext, sum-upto}
 use Rattle.laws.proofs.Tests.{and-true, or-true, all-at, first-ext, lt-or-ge}
-use Rattle.paper.specs.Refusals.{Checked, accepted}
 use Rattle.paper.specs.Scales.{billion}
 use Rattle.paper.specs.Ladder.{buckets, Term, inMonths, later, notAfter, upperEnds, upperEnd, bucketOf}
-use Rattle.paper.specs.Records.{Record, Flows, flows}
-use Rattle.paper.specs.Flow.{sided, due, couponsDue, flowOf, flow}
+use Rattle.paper.specs.Flow.{due, couponsDue}
 use Rattle.paper.proofs.Buckets.{in-bucket}
-use Rattle.paper.proofs.Magnitudes.{due-once, coupons-add-up, size-coupons}
-use Rattle.posting.specs.declared.Taken.{Taken}
-use Rattle.posting.specs.Parts.{FlowParts, Entered}
-use Rattle.posting.specs.Answers.{FlowsTaken}
+use Rattle.paper.proofs.Magnitudes.{coupons-add-up, coupons-and-due}
 use Rattle.posting.proofs.Loops.{raised}
-use Rattle.posting.proofs.Admission.{entered-taken}
 use Rattle.due.specs.declared.schedule.Schedule.{Schedule}
 use Rattle.due.specs.Schedules.{startOf, scheduled, Regular, monthSeen}
 
@@ -239,15 +232,8 @@ module _ (s : Schedule) where
   coupons-small k l =
       omega (arith, sum-upto (couponsDue (startOf s) (s .period) (s .count) (s .coupon .0)) k buckets l, coupons-add-up (startOf s) (s .period) (s .count) (s .coupon .0))
 
-  pub scheduled-small : (term : Term) (amount k : ℕ) → k < buckets → scheduled s term amount k ≤ s .count * s .coupon .0 + amount
-  scheduled-small term amount k l = omega (arith, coupons-small k l, sum-upto (due term amount) k buckets l, due-once term amount)
+  pub scheduled-sum : (term : Term) (amount : ℕ) → sum (scheduled s term amount) buckets ≡ s .count * s .coupon .0 + amount
+  scheduled-sum term amount = coupons-and-due (startOf s) (s .period) (s .count) (s .coupon .0) term amount
 
-  -- a record whose flows these are
-  pub schedule-taken : (c : ℕ) (f : Flows) (side : ℕ) (term : Term) (amount : ℕ) {read : Checked Record} {section section' : List ℤ} {sizes sizes' : List ℕ} {answer : Taken}
-      → ((i k : ℕ) → sided side (pos (scheduled s term amount k)) ≡ flowOf f i k) → FlowParts section sizes → read ≡ accepted (flows c f)
-      → Entered (λ j. scheduled s term amount (j % buckets)) side (λ i. s .count * s .coupon .0 + amount) section sizes answer section' sizes'
-      → FlowsTaken read section sizes answer section' sizes'
-  unfolding flow
-  schedule-taken c f side term amount are parts accepts =
-      entered-taken _ accepts _ side _ parts (λ j l. are (j / buckets) (j % buckets))
-      (λ i l. sym (size-coupons c i f side (startOf s) (s .period) (s .count) (s .coupon .0) term amount (are i)))
+  pub scheduled-small : (term : Term) (amount k : ℕ) → k < buckets → scheduled s term amount k ≤ s .count * s .coupon .0 + amount
+  scheduled-small term amount k l = omega (arith, sum-upto (scheduled s term amount) k buckets l, scheduled-sum term amount)

@@ -11,9 +11,9 @@ use Rattle.laws.specs.Sums.{sum, sumOf}
 use Rattle.laws.proofs.Integers.{abs-neg}
 use Rattle.laws.proofs.Sums.{sum-ext, sum-add, sum-le, sum-nil, sum-only}
 use Rattle.laws.proofs.Totals.{sum-getD}
-use Rattle.paper.specs.Ladder.{buckets, Term, later, bucketOf}
+use Rattle.paper.specs.Ladder.{buckets, Term, inMonths, today, later, bucketOf}
 use Rattle.paper.specs.Curve.{Curve}
-use Rattle.paper.specs.Records.{Flows, deposit, loan, termDeposit, flows, option, curve}
+use Rattle.paper.specs.Records.{Flows, single, coupons, floating, deposit, loan, termDeposit, flows, option, curve}
 use Rattle.paper.specs.Behaviour.{depositFlow, prepaymentRate, withdrawalRate, paidAt, prepaidAt, interestAt, loanFlow, termDepositFlow}
 use Rattle.paper.specs.Flow.{sided, due, couponsDue, flowOf, flow, magnitude}
 use Rattle.paper.proofs.Buckets.{in-bucket}
@@ -41,6 +41,11 @@ coupons-add-up start period (suc n) coupon =
       due-once (later (period * suc n) start) coupon,
     )
 
+pub coupons-and-due : (start : Term) (period count coupon : ℕ) (term : Term) (amount : ℕ)
+    → sum (λ k. couponsDue start period count coupon k + due term amount k) buckets ≡ count * coupon + amount
+coupons-and-due start period count coupon term amount =
+    sum-add (couponsDue start period count coupon) (due term amount) buckets ∙ omega (arith, coupons-add-up start period count coupon, due-once term amount)
+
 pub abs-sided : (side : ℕ) (z : ℤ) → natAbs (sided side z) ≡ natAbs z
 unfolding sided
 abs-sided side z = by (side is 1)
@@ -50,28 +55,32 @@ abs-sided side z = by (side is 1)
     by false = abs-neg z
 
 module _ (c i : ℕ) where
-  -- one amount due at a term
-  pub size-due : (f : Flows) (side : ℕ) (term : Term) (amount : ℕ) → ((k : ℕ) → sided side (pos (due term amount k)) ≡ flowOf f i k) → magnitude (flows c f) i ≡ amount
+  -- flows of one side come to their sum
+  pub size-sided : (f : Flows) (side : ℕ) (amounts : ℕ → ℕ) → ((k : ℕ) → sided side (pos (amounts k)) ≡ flowOf f i k) → magnitude (flows c f) i ≡ sum amounts buckets
   unfolding magnitude flow
-  size-due f side term amount are = sum-ext _ _ buckets (λ k _. ap natAbs (sym (are k)) ∙ abs-sided side (pos (due term amount k))) ∙ due-once term amount
+  size-sided f side amounts are = sum-ext _ _ buckets (λ k _. ap natAbs (sym (are k)) ∙ abs-sided side (pos (amounts k)))
 
-  -- coupons after a start, and one amount due at a term
-  pub size-coupons : (f : Flows) (side : ℕ) (start : Term) (period count coupon : ℕ) (term : Term) (amount : ℕ)
-      → ((k : ℕ) → sided side (pos (couponsDue start period count coupon k + due term amount k)) ≡ flowOf f i k) → magnitude (flows c f) i ≡ count * coupon + amount
-  unfolding magnitude flow
-  size-coupons f side start period count coupon term amount are =
-      sum-ext _ _ buckets (λ k _. ap natAbs (sym (are k)) ∙ abs-sided side (pos (couponsDue start period count coupon k + due term amount k)))
-      ∙ sum-add (couponsDue start period count coupon) (due term amount) buckets
-      ∙ omega (arith, coupons-add-up start period count coupon, due-once term amount)
+  pub size-single : (side : ℕ) (term : Term) (amount : ℕ) → magnitude (flows c (single side term amount)) i ≡ amount
+  unfolding flowOf
+  size-single side term amount = size-sided _ side (due term amount) (λ k. refl) ∙ due-once term amount
+
+  pub size-coupons : (side period count coupon principal : ℕ) → magnitude (flows c (coupons side period count coupon principal)) i ≡ count * coupon + principal
+  unfolding flowOf
+  size-coupons side period count coupon principal =
+      let last = inMonths (period * count) in
+      size-sided _ side (λ k. couponsDue today period count coupon k + due last principal k) (λ k. refl) ∙ coupons-and-due today period count coupon last principal
+
+  pub size-floating : (side : ℕ) (reset : Term) (principal coupon : ℕ) → magnitude (flows c (floating side reset principal coupon)) i ≡ principal + coupon
+  unfolding flowOf
+  size-floating side reset principal coupon = size-sided _ side (due reset (principal + coupon)) (λ k. refl) ∙ due-once reset (principal + coupon)
 
   pub size-deposit : (category whole : ℕ) (core : List ℕ) → length core ≤ buckets → sumOf core ≤ whole → magnitude (flows c (deposit category whole core)) i ≡ whole
-  unfolding magnitude flow flowOf
-  size-deposit category whole core h l = sum-ext _ _ buckets (λ k _. abs-neg (pos (depositFlow whole core k))) ∙ deposit-adds-up whole core h l
+  unfolding sided flowOf
+  size-deposit category whole core h l = size-sided _ 2 (depositFlow whole core) (λ k. refl) ∙ deposit-adds-up whole core h l
 
   pub size-term-deposit : (share : ℕ) (amounts : List ℕ) → length amounts ≤ buckets → magnitude (flows c (termDeposit share amounts)) i ≡ sumOf amounts
-  unfolding magnitude flow flowOf
-  size-term-deposit share amounts h =
-      sum-ext _ _ buckets (λ k _. abs-neg (pos (termDepositFlow (withdrawalRate share i) amounts k))) ∙ term-deposit-adds-up share i amounts h
+  unfolding sided flowOf
+  size-term-deposit share amounts h = size-sided _ 2 (termDepositFlow (withdrawalRate share i) amounts) (λ k. refl) ∙ term-deposit-adds-up share i amounts h
 
   -- that scenario's own flows; they are no more than whole that is scheduled
   pub size-loan : (share : ℕ) (principals interests : List ℕ) → length principals ≤ buckets → length interests ≤ buckets

@@ -10,7 +10,7 @@ use Rattle.laws.specs.Sums.{sum, sumOf}
 use Rattle.laws.proofs.Sums.{sum-upto}
 use Rattle.paper.specs.Scales.{billion}
 use Rattle.paper.specs.Ladder.{buckets}
-use Rattle.paper.specs.Records.{deposit, loan, termDeposit, flows}
+use Rattle.paper.specs.Records.{loan, termDeposit, flows}
 use Rattle.paper.specs.Behaviour.{wholeRate, depositFlow, prepaymentRate, loanFlow, withdrawalRate, termDepositFlow}
 use Rattle.paper.specs.Flow.{sided, flowOf, flow, magnitude}
 use Rattle.paper.specs.Sound.{SoundFlows}
@@ -23,10 +23,6 @@ use Rattle.behaviour.proofs.Prepayment.{loan-sum}
 
 pub core-small : (whole : ℕ) (core : List ℕ) → length core ≤ buckets → sumOf core ≤ whole → (k : ℕ) → k < buckets → depositFlow whole core k ≤ whole
 core-small whole core few within k l = omega (arith, sum-upto (depositFlow whole core) k buckets l, deposit-adds-up whole core few within)
-
-pub core-flow : (c category whole : ℕ) (core : List ℕ) (i k : ℕ) → sided 2 (pos (depositFlow whole core k)) ≡ flow (flows c (deposit category whole core)) i k
-unfolding sided flow flowOf
-core-flow c category whole core i k = refl
 
 -- ---- kind 5
 

@@ -7,6 +7,7 @@ use native.Mathlib.Omega.{arith}
 use lib.IntN.{ℤ, pos, _+ℤ_}
 use lib.ListN.{length, getD}
 use Rattle.laws.specs.Tests.{if_then_else_, _is_}
+use Rattle.laws.specs.Sums.{sum}
 use Rattle.laws.specs.Lists.{tabulate}
 use Rattle.laws.proofs.Joins.{joined-ext}
 use Rattle.paper.specs.declared.Refusal.the-variants.{OverLimit}
@@ -18,7 +19,7 @@ use Rattle.paper.specs.Flow.{scenarios, shocked, sided, due, flowOf, flow, magn
 use Rattle.paper.specs.Ledger.{sectionSize}
 use Rattle.paper.specs.Sound.{SoundFlows, Sound}
 use Rattle.paper.proofs.Checks.{Checks, Clears, known-of}
-use Rattle.paper.proofs.Magnitudes.{size-due}
+use Rattle.paper.proofs.Magnitudes.{size-sided}
 use Rattle.arrays.specs.Slots.{plus, plusℤ, withFlows, withSizes, withAddOns, withOptionSizes, optionMagnitude, roomFor, onlyIf}
 use Rattle.posting.specs.declared.Taken.{Taken}
 use Rattle.posting.specs.declared.Taken.the-variants.{Refused}
@@ -85,6 +86,14 @@ entered-taken r accepts amounts side more {section = section} {sizes = sizes} pa
       sums = h .sums ∙ ap₂ (λ (b : Bool) (l : List ℕ). onlyIf b l sizes) same sums ∙ part-is r withSizes sizes room;
     })
 
+-- flows of one side, the same in every scenario
+pub steady-taken : (c : ℕ) (f : Flows) (side : ℕ) (amounts : ℕ → ℕ) (size : ℕ) {read : Checked Record} {section section' : List ℤ} {sizes sizes' : List ℕ} {answer : Taken}
+    → sum amounts buckets ≡ size → ((i k : ℕ) → sided side (pos (amounts k)) ≡ flowOf f i k) → FlowParts section sizes → read ≡ accepted (flows c f)
+    → Entered (λ j. amounts (j % buckets)) side (λ i. size) section sizes answer section' sizes' → FlowsTaken read section sizes answer section' sizes'
+unfolding flow
+steady-taken c f side amounts size whole are parts accepts =
+    entered-taken _ accepts _ side _ parts (λ j l. are (j / buckets) (j % buckets)) (λ i l. sym (size-sided c i f side amounts (are i) ∙ whole))
+
 -- what a decoded record with flows is known to be
 pub flows-sound : (curved : ℕ → Bool) {c : ℕ} {f : Flows} {m : Checked Record} → Checks Clears (Sound currencies curved) m → m ≡ accepted (flows c f) → SoundFlows f
 unfolding Sound
@@ -102,13 +111,6 @@ due-column side term amount section = joined-ext _+ℤ_ (pos 0) section _ _ (λ 
     by true = refl
     by false = sym (sided-nil side)
 
-pub due-taken : (c : ℕ) (f : Flows) (side : ℕ) (term : Term) (amount : ℕ) {read : Checked Record} {section section' : List ℤ} {sizes sizes' : List ℕ} {answer : Taken}
-    → ((i k : ℕ) → sided side (pos (due term amount k)) ≡ flowOf f i k) → FlowParts section sizes → read ≡ accepted (flows c f)
-    → Entered (λ j. due term amount (j % buckets)) side (λ i. amount) section sizes answer section' sizes' → FlowsTaken read section sizes answer section' sizes'
-unfolding flow
-due-taken c f side term amount are parts accepts =
-    entered-taken _ accepts _ side _ parts (λ j l. are (j / buckets) (j % buckets)) (λ i l. sym (size-due c i f side term amount (are i)))
-
 -- ---- one row of nineteen flows, the same in every scenario
 
 -- a row that was filled by a rule is entered as the rule
@@ -120,9 +122,3 @@ row-entered f side more {section = section} {sizes = sizes} e h = record {
       (joined-ext _+ℤ_ (pos 0) section _ _ (λ j _. ap (λ (n : ℕ). sided side (pos n)) (row-at f buckets e (j % buckets) (omega arith))));
   sums = h .sums;
 }
-
-pub row-taken : (r : Record) {read : Checked Record} → read ≡ accepted r → (side : ℕ) {section section' : List ℤ} {sizes sizes' l : List ℕ} {answer : Taken} → FlowParts section sizes
-    → (f : ℕ → ℕ) (size : ℕ) → l ≡ tabulate f buckets → ((i k : ℕ) → sided side (pos (f k)) ≡ flow r i k) → ((i : ℕ) → magnitude r i ≡ size)
-    → Entered (λ j. getD l (j % buckets) 0) side (λ i. size) section sizes answer section' sizes' → FlowsTaken read section sizes answer section' sizes'
-row-taken r accepts side parts f size e flows-are sized h =
-    entered-taken r accepts _ side _ parts (λ j o. flows-are (j / buckets) (j % buckets)) (λ i o. sym (sized i)) (row-entered f side _ e h)

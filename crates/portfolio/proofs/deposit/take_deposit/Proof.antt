@@ -3,14 +3,14 @@ use Prim.Native.Nat.{ℕ, _≤_}
 use Rattle.laws.specs.Sums.{sumOf}
 use Rattle.paper.specs.Ladder.{buckets}
 use Rattle.paper.specs.Behaviour.{depositFlow}
+use Rattle.paper.specs.Flow.{sided, flowOf}
 use Rattle.paper.specs.Decode.{decodeDeposit}
-use Rattle.paper.proofs.Magnitudes.{size-deposit}
+use Rattle.paper.proofs.Deposits.{deposit-adds-up}
 use Rattle.fields.specs.Answers.{amountsFrom}
 use Rattle.record.specs.Answers.{depositOf, depositRead}
 use Rattle.posting.specs.Parts.{trillion}
 use Rattle.posting.proofs.Loops.{row-long, row-small}
-use Rattle.posting.proofs.Admission.{row-taken}
-use Rattle.portfolio.proofs.RecordFlows.{core-small, core-flow}
+use Rattle.portfolio.proofs.RecordFlows.{core-small}
 use mathlib.Core.Bool.{false}
 use mathlib.Core.List.{List}
 use mathlib.Core.Path.{_≡_, refl, sym, ap, _∙_}
@@ -22,7 +22,7 @@ use Rattle.paper.specs.Sound.{SoundFlows}
 use Rattle.paper.proofs.Ranges.{core-within}
 use Rattle.paper.proofs.KindTable.{deposit-kind}
 use Rattle.record.specs.declared.deposit.Deposit.{Deposit}
-use Rattle.posting.proofs.Admission.{flows-refused, flows-sound}
+use Rattle.posting.proofs.Admission.{steady-taken, flows-refused, flows-sound, row-entered}
 use Rattle.behaviour.proofs.AmountRange.{amounts-few, amounts-small}
 use Rattle.portfolio.proofs.deposit.take_deposit.Statement.{statement}
 use Rattle.portfolio.proofs.deposit.take_deposit.Tie as tie
@@ -93,15 +93,15 @@ same-length-2 : tie.Need-same-length-2
 same-length-2 c = search needs
 
 returns-2 : tie.Need-returns-2
-unfolding SoundFlows
+unfolding SoundFlows sided flowOf
 returns-2 c =
     let w = c .before .before .before .before .before .before .before .before .before .before in
     let d = fields w in
     let whole = d .total .0 in
     let core = amountsFrom (body w) 6 in
-    row-taken _ (read w) 2 (w .before .before .before .before .before .before .pre .1) (depositFlow whole core) whole
-    (c .before .before .before .before .before .before .before .before .core-row .ensures) (core-flow (d .currency) (d .category) whole core)
-    (λ i. size-deposit (d .currency) i (d .category) whole core (amounts-few (body w) 6) (within w)) (c .before .before .before .enter-row .ensures)
+    steady-taken (d .currency) _ 2 (depositFlow whole core) whole (deposit-adds-up whole core (amounts-few (body w) 6) (within w)) (λ i k. refl)
+    (w .before .before .before .before .before .before .pre .1) (read w)
+    (row-entered (depositFlow whole core) 2 _ (c .before .before .before .before .before .before .before .before .core-row .ensures) (c .before .before .before .enter-row .ensures))
 
 pub take-deposit-spec : {M : Type 1} → statement M
 take-deposit-spec =

@@ -15,8 +15,9 @@ use Rattle.paper.proofs.Ranges.{period-range}
 use Rattle.paper.proofs.KindTable.{coupons-kind}
 use Rattle.record.specs.declared.coupons.Coupons.{Coupons}
 use Rattle.record.specs.Answers.{couponsOf, couponsRead}
-use Rattle.posting.proofs.Admission.{flows-refused, flows-sound}
-use Rattle.due.proofs.Periods.{schedule-taken}
+use Rattle.posting.proofs.Admission.{steady-taken, flows-refused, flows-sound}
+use Rattle.due.specs.Schedules.{scheduled}
+use Rattle.due.proofs.Periods.{scheduled-sum}
 use Rattle.slotting.proofs.coupons.take_coupons.Statement.{statement}
 use Rattle.slotting.proofs.coupons.take_coupons.Tie as tie
 
@@ -57,7 +58,8 @@ returns-2 : tie.Need-returns-2
 unfolding flowOf
 returns-2 c =
     let w = c .before .before .before .before .before .before .before .before .before in
-    schedule-taken _ (fields w .currency) (couponsOf (fields w)) (fields w .side) (inMonths (fields w .period * fields w .count)) (fields w .principal .0) (λ i k. refl)
+    let last = inMonths (fields w .period * fields w .count) in
+    steady-taken (fields w .currency) (couponsOf (fields w)) (fields w .side) (scheduled _ last (fields w .principal .0)) _ (scheduled-sum _ last (fields w .principal .0)) (λ i k. refl)
     (w .before .before .before .before .before .before .pre .1) (read w) (c .before .before .before .slot-schedule .ensures)
 
 pub take-coupons-spec : {M : Type 1} → statement M
