@@ -113,10 +113,10 @@ static void show_number(uint64_t number)
 
 static void show_kinds(const uint8_t *book, size_t bytes)
 {
-    static const size_t lengths[] = {1, 10, 14, 14, 83, 156, 80, 27, 84};
-    for (size_t place = 0; place < bytes && book[place] <= 8; place += lengths[book[place]])
+    static const size_t lengths[] = {1, 10, 14, 14, 83, 156, 80, 27, 84, 21};
+    for (size_t place = 0; place < bytes && book[place] <= 9; place += lengths[book[place]])
         switch (book[place]) {
-            SEEN(1) SEEN(2) SEEN(3) SEEN(4) SEEN(5) SEEN(6) SEEN(7) SEEN(8)
+            SEEN(1) SEEN(2) SEEN(3) SEEN(4) SEEN(5) SEEN(6) SEEN(7) SEEN(8) SEEN(9)
         }
 }
 #else

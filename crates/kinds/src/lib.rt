@@ -15,6 +15,7 @@ use posting::Taken;
 use slotting::coupons::take_coupons;
 use slotting::curves::take_curve;
 use slotting::floating::take_floating;
+use slotting::floating_spread::take_floating_spread;
 use slotting::option_add_on::take_option;
 use slotting::single::take_single;
 
@@ -31,6 +32,7 @@ pub fn body_length(kind: u8) -> usize
         6 => 79,
         7 => 26,
         8 => 83,
+        9 => 20,
         _ => 0,
     }
 }
@@ -60,6 +62,7 @@ pub fn take_body(
         6 => take_term_deposit(currency, body, section, sizes),
         7 => take_option(currency, body, options, addons),
         8 => take_curve(currency, curved, body, rates),
+        9 => take_floating_spread(currency, body, section, sizes),
         _ => Taken::Refused(Fault {
             cause: Refusal::UnknownKind,
             place: 0,

@@ -29,6 +29,10 @@ couponsBody currency side period count coupon principal = currency ∷ side ∷ 
 abbrev pub floatingBody : ℕ → ℕ → ℕ → ℕ → ℕ → ℕ → List ℕ
 floatingBody currency side months days principal coupon = currency ∷ side ∷ in2 months ++ (days ∷ in4 principal) ++ in4 coupon
 
+abbrev pub floatingSpreadBody : ℕ → ℕ → ℕ → ℕ → ℕ → ℕ → ℕ → ℕ → ℕ → List ℕ
+floatingSpreadBody currency side months days principal coupon period count spread =
+    floatingBody currency side months days principal coupon ++ (period ∷ in2 count) ++ in4 spread
+
 abbrev pub depositBody : ℕ → ℕ → ℕ → List ℕ → List ℕ
 depositBody currency category whole core = currency ∷ category ∷ in4 whole ++ core
 

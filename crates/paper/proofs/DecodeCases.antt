@@ -14,12 +14,12 @@ use Rattle.paper.specs.Ladder.{midpoints}
 use Rattle.paper.specs.Refusals.{Checked, accepted, refused, _>>=_, _>>_, unless}
 use Rattle.paper.specs.Series.{denominator, seriesTerm, numerator, billionOverE}
 use Rattle.paper.specs.Curve.{shortShare, rateChanges, shockedRate}
-use Rattle.paper.specs.Records.{Record, flows, single, coupons, floating, deposit, loan, termDeposit, option, curve, currencies}
+use Rattle.paper.specs.Records.{Record, flows, single, coupons, floating, deposit, loan, termDeposit, floatingSpread, option, curve, currencies}
 use Rattle.paper.specs.Behaviour.{weighedCore, scheduledAt}
 use Rattle.paper.specs.TurnedDown.{badCurrency, badSide, badMonths, badDays, badPeriod, badCount, badAmount, badOption, badShare, badCategory, coreAboveCap, coreTooLong, interestAlone, secondCurve, badRate, badShock, badShocked, scheduleOver}
 use Rattle.paper.specs.Fields.{signed, field, each}
-use Rattle.paper.specs.Decode.{decodeSingle, decodeCoupons, decodeFloating, decodeDeposit, decodeLoan, decodeTermDeposit, decodeOption, decodeCurve, decode}
-use Rattle.paper.proofs.Bytes.{in4, below4, only, pair, singleBody, couponsBody, floatingBody, depositBody, loanBody, termDepositBody, optionBody, rates, curveBody}
+use Rattle.paper.specs.Decode.{decodeSingle, decodeCoupons, decodeFloating, decodeDeposit, decodeLoan, decodeTermDeposit, decodeOption, decodeCurve, decodeFloatingSpread, decode}
+use Rattle.paper.proofs.Bytes.{in4, below4, only, pair, singleBody, couponsBody, floatingBody, floatingSpreadBody, depositBody, loanBody, termDepositBody, optionBody, rates, curveBody}
 
 pub record Row : Type 0 where
   pub body : Checked Record
@@ -80,8 +80,18 @@ bodies =
     ∷ (freshly 8 (curveBody 8 (below4 50000) 0 0 1001) means refused OutOfRange 82)
     ∷ (freshly 8 (curveBody 8 (below4 50000) 1 0 0) means refused OutOfRange 2)
     ∷ (freshly 8 (curveBody 8 (in4 300000) 0 0 0) means accepted (curve 8 (record { rates = replicate 19 (pos 300000); shocks = record { parallel = 0; short = 0; long = 0 } })))
+    ∷ (freshly 9 (floatingSpreadBody 2 1 588 30 300 7 12 1 5) means accepted (flows 2 (floatingSpread 1 (record { months = 588; days = 30 }) 300 7 12 1 5)))
+    ∷ (freshly 9 (floatingSpreadBody 2 1 0 0 300 7 1 600 0) means accepted (flows 2 (floatingSpread 1 (record { months = 0; days = 0 }) 300 7 1 600 0)))
+    ∷ (freshly 9 (floatingSpreadBody 2 3 601 31 300 1000000001 2 0 1000000001) means refused BadSide 2)
+    ∷ (freshly 9 (floatingSpreadBody 2 1 601 31 300 1000000001 2 0 1000000001) means refused BadTerm 3)
+    ∷ (freshly 9 (floatingSpreadBody 2 1 600 30 300 1000000001 2 0 1000000001) means refused TooLarge 10)
+    ∷ (freshly 9 (floatingSpreadBody 2 1 600 30 300 7 2 0 1000000001) means refused BadTerm 14)
+    ∷ (freshly 9 (floatingSpreadBody 2 1 588 30 300 7 12 0 1000000001) means refused BadTerm 15)
+    ∷ (freshly 9 (floatingSpreadBody 2 1 589 0 300 7 12 1 1000000001) means refused BadTerm 15)
+    ∷ (freshly 9 (floatingSpreadBody 2 1 600 0 300 7 1 1 1000000001) means refused BadTerm 15)
+    ∷ (freshly 9 (floatingSpreadBody 2 1 588 30 300 7 12 1 1000000001) means refused TooLarge 17)
     ∷ []
 
 pub bodies-mean : map (λ r. r .body) bodies ≡ map (λ r. r .is) bodies
-unfolding bodies rates any first sum total nearest nearestℤ factorial midpoints _>>=_ _>>_ unless denominator seriesTerm numerator billionOverE shortShare rateChanges shockedRate weighedCore scheduledAt badCurrency badSide badMonths badDays badPeriod badCount badAmount badOption badShare badCategory coreAboveCap coreTooLong interestAlone secondCurve badRate badShock badShocked scheduleOver signed field each decodeSingle decodeCoupons decodeFloating decodeDeposit decodeLoan decodeTermDeposit decodeOption decodeCurve decode
+unfolding bodies rates any first sum total nearest nearestℤ factorial midpoints _>>=_ _>>_ unless denominator seriesTerm numerator billionOverE shortShare rateChanges shockedRate weighedCore scheduledAt badCurrency badSide badMonths badDays badPeriod badCount badAmount badOption badShare badCategory coreAboveCap coreTooLong interestAlone secondCurve badRate badShock badShocked scheduleOver signed field each decodeSingle decodeCoupons decodeFloating decodeDeposit decodeLoan decodeTermDeposit decodeOption decodeCurve decodeFloatingSpread decode
 bodies-mean = refl

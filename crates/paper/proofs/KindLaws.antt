@@ -1,4 +1,4 @@
--- What the records of a kind are known to be: a body begins with its currency, so that this can be read before the kind is looked at; kinds 1 to 6 have flows and
+-- What the records of a kind are known to be: a body begins with its currency, so that this can be read before the kind is looked at; kinds 1 to 6 and 9 have flows and
 -- add nothing, kind 7 adds and has no flow, a curve does neither; every field lies in its range.
 use Prim.Native.Nat.{ℕ}
 use mathlib.Core.Bool.{Bool, true, false, true≢false}

@@ -1,16 +1,20 @@
 -- The kinds, one by one: what is known of their records, and their rows in the table. A new kind is one of each, here.
-use Prim.Native.Nat.{ℕ, zero, suc}
+use Prim.Native.Nat.{ℕ, zero, suc, _≤_}
 use mathlib.Core.Bool.{Bool, true, false}
-use mathlib.Core.List.{List}
+use mathlib.Core.List.{List, _∷_}
+use mathlib.Core.Logic.{⊎-elim}
 use mathlib.Core.Path.{_≡_, refl, sym, ap, _∙_}
+use native.Mathlib.Omega.{arith}
+use lib.ListN.{List·getD-eq-default}
 use borrow.Author.Tests.{eqb-true, eqb-false, ltb-false, ne-eqb}
 use Rattle.laws.specs.Tests.{if_then_else_, _is_}
+use Rattle.laws.proofs.Tests.{lt-or-ge}
 use Rattle.paper.specs.declared.Refusal.the-variants.{UnknownKind}
 use Rattle.paper.specs.Refusals.{numberOf, Checked, refused}
 use Rattle.paper.specs.Records.{Record, option, curve, kinds, bodyLength, currencyOf, isCurve, curveKind}
 use Rattle.paper.specs.Flow.{flow, adds, gives}
 use Rattle.paper.specs.TurnedDown.{unknownKind, interestAlone, secondCurve, scheduleOver}
-use Rattle.paper.specs.Decode.{decodeSingle, decodeCoupons, decodeFloating, decodeDeposit, decodeLoan, decodeTermDeposit, decodeOption, decodeCurve, decode}
+use Rattle.paper.specs.Decode.{decodeSingle, decodeCoupons, decodeFloating, decodeDeposit, decodeLoan, decodeTermDeposit, decodeOption, decodeCurve, decodeFloatingSpread, decode}
 use Rattle.paper.specs.Book.{touchesNothing}
 use Rattle.paper.specs.Sound.{SoundFlows, Sound}
 use Rattle.paper.proofs.Checks.{known, chain, tested, each-known}
@@ -104,6 +108,20 @@ module _ (top : ℕ) (curved : ℕ → Bool) (body : List ℕ) where
         sound = (hc, record { fresh = e; base = hr; parallel = hp; short = hh; long = hg; shocked = shocked-ranged _ hr (none-bad _ f) });
       }))))))))
 
+  pub floating-spread-kind : Kind top curved FlowsOnly body (decodeFloatingSpread top body)
+  unfolding decodeFloatingSpread SoundFlows
+  floating-spread-kind =
+      begins top body (λ c hc.
+      chain (side-known body 1) (λ s hs.
+      chain (months-known body 2) (λ m hm.
+      chain (days-known body 4) (λ d hd.
+      chain (amount-known body 5) (λ a ha.
+      chain (amount-known body 9) (λ b hb.
+      chain (period-known body 13) (λ p hp.
+      chain (count-known body 14 m p) (λ n hn.
+      chain (amount-known body 16) (λ x hx.
+      flows-read hc (hs, (hm, hd), ha, hb, hp, hn, hx))))))))))
+
 -- ---- the table, row by row: the length of a body and its decoder; and none of them
 
 pub record Row (top kind bytes : ℕ) (curved : ℕ → Bool) (decodeIt : List ℕ → Checked Record) : Type 0 where
@@ -143,38 +161,51 @@ module _ (top : ℕ) (curved : ℕ → Bool) where
   unfolding bodyLength kinds decode
   row-8 = record { long = refl; decodes = λ body. refl }
 
+  pub row-9 : Row top 9 20 curved (decodeFloatingSpread top)
+  unfolding bodyLength kinds decode
+  row-9 = record { long = refl; decodes = λ body. refl }
+
 pub row-length : {code kind bytes : ℕ} {top : ℕ} {curved : ℕ → Bool} {decodeIt : List ℕ → Checked Record} → Row top kind bytes curved decodeIt → code ≡ kind → bytes ≡ bodyLength code
 row-length of here = sym (ap bodyLength here ∙ of .long)
 
+-- kinds are 1 to this
+abbrev lastKind : ℕ
+lastKind = 9
+
+-- none of 1 to n
+abbrev pub NoneUpTo : ℕ → ℕ → Type 0
+NoneUpTo zero k = Unit
+NoneUpTo (suc n) k = NoneUpTo n k × (k ≡ suc n → ⊥)
+
 abbrev pub NoneOf : ℕ → Type 0
-NoneOf k = ((((((((Unit {0} × (k ≡ 1 → ⊥)) × (k ≡ 2 → ⊥)) × (k ≡ 3 → ⊥)) × (k ≡ 4 → ⊥)) × (k ≡ 5 → ⊥)) × (k ≡ 6 → ⊥)) × (k ≡ 7 → ⊥)) × (k ≡ 8 → ⊥))
+NoneOf = NoneUpTo lastKind
+
+only-nought : (n k : ℕ) → NoneUpTo n k → k ≤ n → k ≡ 0
+only-nought zero k f l = omega arith
+only-nought (suc n) k f l = ⊎-elim (λ less. only-nought n k (f .0) (omega arith)) (λ more. absurd (f .1 (omega arith))) (lt-or-ge k (suc n))
 
 pub none-such : (kind : ℕ) → NoneOf kind → bodyLength kind ≡ 0
 unfolding bodyLength kinds
-none-such zero f = refl
-none-such (suc zero) f = absurd (f .0 .0 .0 .0 .0 .0 .0 .1 refl)
-none-such (suc (suc zero)) f = absurd (f .0 .0 .0 .0 .0 .0 .1 refl)
-none-such (suc (suc (suc zero))) f = absurd (f .0 .0 .0 .0 .0 .1 refl)
-none-such (suc (suc (suc (suc zero)))) f = absurd (f .0 .0 .0 .0 .1 refl)
-none-such (suc (suc (suc (suc (suc zero))))) f = absurd (f .0 .0 .0 .1 refl)
-none-such (suc (suc (suc (suc (suc (suc zero)))))) f = absurd (f .0 .0 .1 refl)
-none-such (suc (suc (suc (suc (suc (suc (suc zero))))))) f = absurd (f .0 .1 refl)
-none-such (suc (suc (suc (suc (suc (suc (suc (suc zero)))))))) f = absurd (f .1 refl)
-none-such (suc (suc (suc (suc (suc (suc (suc (suc (suc n))))))))) f = refl
+none-such kind f =
+    ⊎-elim (λ past. List·getD-eq-default (0 ∷ kinds) 0 {n = kind} past) (λ l. rw (only-nought lastKind kind f (omega arith))) (lt-or-ge lastKind kind)
 
 pub none-decoded : (top : ℕ) (curved : ℕ → Bool) (kind : ℕ) (body : List ℕ) → NoneOf kind → decode top curved kind body ≡ refused UnknownKind 0
 unfolding decode
 none-decoded top curved kind body f =
     rw (
-      ne-eqb kind 1 (f .0 .0 .0 .0 .0 .0 .0 .1),
-      ne-eqb kind 2 (f .0 .0 .0 .0 .0 .0 .1),
-      ne-eqb kind 3 (f .0 .0 .0 .0 .0 .1),
-      ne-eqb kind 4 (f .0 .0 .0 .0 .1),
-      ne-eqb kind 5 (f .0 .0 .0 .1),
-      ne-eqb kind 6 (f .0 .0 .1),
-      ne-eqb kind 7 (f .0 .1),
-      ne-eqb kind 8 (f .1),
+      other 1 (omega arith),
+      other 2 (omega arith),
+      other 3 (omega arith),
+      other 4 (omega arith),
+      other 5 (omega arith),
+      other 6 (omega arith),
+      other 7 (omega arith),
+      other 8 (omega arith),
+      other 9 (omega arith),
     )
+  where
+    other : (n : ℕ) → (1 ≤ n) × (n ≤ lastKind) → (kind is n) ≡ false
+    other n l = ne-eqb kind n (λ e. omega (arith, only-nought lastKind kind f (omega arith)))
 
 -- ---- the first field of every kind is its currency
 
@@ -202,4 +233,5 @@ module _ (top : ℕ) (curved : ℕ → Bool) (kind : ℕ) (body : List ℕ) wher
       at 6 (λ e. of-kind e (λ r only. only .position) (term-deposit-kind top curved body)) (λ n6.
       at 7 (λ e. of-kind e (λ r only. only .position) (option-kind top curved body)) (λ n7.
       at 8 (λ e. of-kind e (λ r only. only .curved) (curve-kind top curved body)) (λ n8.
-      no-kind refl (no-length (none-such kind ((((((((tt, n1), n2), n3), n4), n5), n6), n7), n8)))))))))))
+      at 9 (λ e. of-kind e (λ r only. only .position) (floating-spread-kind top curved body)) (λ n9.
+      no-kind refl (no-length (none-such kind (((((((((tt, n1), n2), n3), n4), n5), n6), n7), n8), n9))))))))))))

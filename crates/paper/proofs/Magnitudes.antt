@@ -13,7 +13,7 @@ use Rattle.laws.proofs.Sums.{sum-ext, sum-add, sum-le, sum-nil, sum-only}
 use Rattle.laws.proofs.Totals.{sum-getD}
 use Rattle.paper.specs.Ladder.{buckets, Term, inMonths, today, later, bucketOf}
 use Rattle.paper.specs.Curve.{Curve}
-use Rattle.paper.specs.Records.{Flows, single, coupons, floating, deposit, loan, termDeposit, flows, option, curve}
+use Rattle.paper.specs.Records.{Flows, single, coupons, floating, deposit, loan, termDeposit, floatingSpread, flows, option, curve}
 use Rattle.paper.specs.Behaviour.{depositFlow, prepaymentRate, withdrawalRate, paidAt, prepaidAt, interestAt, loanFlow, termDepositFlow}
 use Rattle.paper.specs.Flow.{sided, due, couponsDue, flowOf, flow, magnitude}
 use Rattle.paper.proofs.Buckets.{in-bucket}
@@ -73,6 +73,13 @@ module _ (c i : ℕ) where
   pub size-floating : (side : ℕ) (reset : Term) (principal coupon : ℕ) → magnitude (flows c (floating side reset principal coupon)) i ≡ principal + coupon
   unfolding flowOf
   size-floating side reset principal coupon = size-sided _ side (due reset (principal + coupon)) (λ k. refl) ∙ due-once reset (principal + coupon)
+
+  pub size-floating-spread : (side : ℕ) (reset : Term) (principal coupon period count spread : ℕ)
+      → magnitude (flows c (floatingSpread side reset principal coupon period count spread)) i ≡ count * spread + (principal + coupon)
+  unfolding flowOf
+  size-floating-spread side reset principal coupon period count spread =
+      size-sided _ side (λ k. couponsDue reset period count spread k + due reset (principal + coupon) k) (λ k. refl)
+      ∙ coupons-and-due reset period count spread reset (principal + coupon)
 
   pub size-deposit : (category whole : ℕ) (core : List ℕ) → length core ≤ buckets → sumOf core ≤ whole → magnitude (flows c (deposit category whole core)) i ≡ whole
   unfolding sided flowOf

@@ -1,19 +1,20 @@
--- The rules from changes to the verdict, the tolerance and the roundings, at numbers worked by hand: one table with a single claim.
+-- The flows of kinds 2 and 9, and the rules from changes to the verdict, the tolerance and the roundings, at numbers worked by hand: one table with a single claim.
 use Prim.Native.Nat.{ℕ, _-_}
 use mathlib.Core.Path.{_≡_, refl}
-use mathlib.Core.List.{List, [], _∷_, map}
+use mathlib.Core.List.{List, [], _∷_, _++_, map}
 use lib.IntN.{ℤ, pos, negsuc, negℤ}
-use lib.ListN.{getD}
+use lib.ListN.{getD, replicate}
 use Rattle.laws.specs.Tests.{first}
 use Rattle.laws.specs.Sums.{sum, greatest}
 use Rattle.laws.specs.Nearest.{nearest, nearestℤ, roundedUp}
-use Rattle.laws.specs.Lists.{tabulateFrom}
+use Rattle.laws.specs.Lists.{tabulateFrom, tabulate}
 use Rattle.paper.specs.Scales.{billion}
 use Rattle.laws.specs.Series.{factorial}
-use Rattle.paper.specs.Ladder.{midpoints}
+use Rattle.paper.specs.Ladder.{notAfter, upperEnds, bucketOf, midpoints}
 use Rattle.paper.specs.Series.{denominator, seriesTerm, numerator, billionOverE}
 use Rattle.paper.specs.Curve.{shortShare, rateChanges}
-use Rattle.paper.specs.Records.{currencies}
+use Rattle.paper.specs.Records.{currencies, Flows, coupons, floatingSpread}
+use Rattle.paper.specs.Flow.{sided, due, couponsDue, flowOf}
 use Rattle.paper.specs.Change.{toleranceOf}
 use Rattle.paper.specs.Verdict.{scenarioSum, measure, worst, verdict, verdictNumber}
 
@@ -31,6 +32,17 @@ gains = (negsuc 0 ∷ negsuc 1 ∷ negsuc 2 ∷ negsuc 3 ∷ negsuc 4 ∷ negsuc
 abbrev verdicts : ℕ → ℕ → List ℕ → List ℕ
 verdicts m u = map (λ T. verdictNumber (verdict m u T))
 
+abbrev inBuckets : Flows → List ℤ
+inBuckets f = tabulate (flowOf f 0) 19
+
+-- the flows of buckets 4 to 9, and nil in all others
+abbrev fourToNine : List ℤ → List ℤ
+fourToNine six = replicate 3 (pos 0) ++ six ++ replicate 10 (pos 0)
+
+-- an asset of 1,000 with a coupon of 10 at the reset, and a spread of 5 every three months after it, four times
+abbrev spreadFrom : ℕ → ℕ → Flows
+spreadFrom months days = floatingSpread 1 (record { months = months; days = days }) 1000 10 3 4 5
+
 pub record Row : Type 0 where
   pub given : List ℤ
   pub stated : List ℤ
@@ -38,6 +50,14 @@ pub record Row : Type 0 where
 unfoldable pub table : List Row
 table =
     record {
+      given = inBuckets (coupons 2 6 5 10 1000);
+      stated = fourToNine (negℤ (pos 10) ∷ pos 0 ∷ negℤ (pos 10) ∷ negℤ (pos 10) ∷ negℤ (pos 10) ∷ negℤ (pos 1010) ∷ []);
+    }
+    -- reset at 9 months: spreads at 12, 15, 18 and 21
+    ∷ record { given = inBuckets (spreadFrom 9 0); stated = fourToNine (pos 0 ∷ pos 1010 ∷ pos 5 ∷ pos 10 ∷ pos 5 ∷ pos 0 ∷ []) }
+    -- a day later, that of 12 months is past bucket 6, and that of 18 past bucket 7
+    ∷ record { given = inBuckets (spreadFrom 9 1); stated = fourToNine (pos 0 ∷ pos 0 ∷ pos 1010 ∷ pos 10 ∷ pos 10 ∷ pos 0 ∷ []) }
+    ∷ record {
       given = tabulateFrom (λ i. pos (scenarioSum currencies (changes mixed) i)) 1 6;
       stated = pos 5 ∷ pos 10 ∷ pos 0 ∷ pos 10 ∷ pos 0 ∷ pos 1 ∷ [];
     }
@@ -74,5 +94,5 @@ table =
     ∷ []
 
 pub rules-hold : map (λ r. r .given) table ≡ map (λ r. r .stated) table
-unfolding table first sum greatest nearest nearestℤ roundedUp tabulateFrom factorial midpoints denominator seriesTerm numerator billionOverE shortShare rateChanges toleranceOf scenarioSum measure worst verdict verdictNumber
+unfolding table first sum notAfter upperEnds bucketOf sided due couponsDue flowOf greatest nearest nearestℤ roundedUp tabulateFrom factorial midpoints denominator seriesTerm numerator billionOverE shortShare rateChanges toleranceOf scenarioSum measure worst verdict verdictNumber
 rules-hold = refl

@@ -7,7 +7,7 @@ use Rattle.paper.specs.declared.Refusal.the-variants.{UnknownKind, CoreA
 use Rattle.paper.specs.Ladder.{buckets}
 use Rattle.paper.specs.Refusals.{Checked, accepted, refused, _>>=_, _>>_, refuseIf}
 use Rattle.paper.specs.Curve.{Curve}
-use Rattle.paper.specs.Records.{Record, flows, option, curve, single, coupons, floating, deposit, loan, termDeposit}
+use Rattle.paper.specs.Records.{Record, flows, option, curve, single, coupons, floating, deposit, loan, termDeposit, floatingSpread}
 use Rattle.paper.specs.TurnedDown.{coreAboveCap, coreTooLong, interestAlone, secondCurve, badShocked, scheduleOver}
 use Rattle.paper.specs.Fields.{currencyAt, sideAt, monthsAt, daysAt, periodAt, countAt, amountAt, optionAt, shareAt, categoryAt, rateAt, shockAt, each}
 
@@ -97,6 +97,20 @@ module _ (top : ℕ) where
     refuseIf (k below buckets) OutOfRange (suc (1 + 4 * k))
     accepted (curve currency z)
 
+  -- 9: as kind 3; then period (1), count (2), spread. The last month is counted from the reset
+  unfoldable pub decodeFloatingSpread : List ℕ → Checked Record
+  decodeFloatingSpread body = do
+    currency ← currencyAt top body 0
+    side ← sideAt body 1
+    months ← monthsAt body 2
+    days ← daysAt body 4
+    principal ← amountAt body 5
+    coupon ← amountAt body 9
+    period ← periodAt body 13
+    count ← countAt months period body 14
+    spread ← amountAt body 16
+    accepted (flows currency (floatingSpread side (record { months = months; days = days }) principal coupon period count spread))
+
   -- by the kind, told which currencies have a curve
   unfoldable pub decode : (ℕ → Bool) → ℕ → List ℕ → Checked Record
   decode curved kind body =
@@ -108,4 +122,5 @@ module _ (top : ℕ) where
       if kind is 6 then decodeTermDeposit body else
       if kind is 7 then decodeOption body else
       if kind is 8 then decodeCurve curved body else
+      if kind is 9 then decodeFloatingSpread body else
       refused UnknownKind 0

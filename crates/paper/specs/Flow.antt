@@ -6,7 +6,7 @@ use Rattle.laws.specs.Tests.{if_then_else_, _is_}
 use Rattle.laws.specs.Sums.{sum}
 use Rattle.paper.specs.Ladder.{buckets, Term, inMonths, today, later, bucketOf}
 use Rattle.paper.specs.Curve.{shockedRate}
-use Rattle.paper.specs.Records.{Flows, single, coupons, floating, deposit, loan, termDeposit, Record, flows, option, curve}
+use Rattle.paper.specs.Records.{Flows, single, coupons, floating, deposit, loan, termDeposit, floatingSpread, Record, flows, option, curve}
 use Rattle.paper.specs.Behaviour.{depositFlow, prepaymentRate, withdrawalRate, loanFlow, termDepositFlow}
 
 -- scenarios: the base and the six
@@ -25,11 +25,11 @@ sided side z = if side is 1 then z else negℤ z
 unfoldable pub due : Term → ℕ → ℕ → ℕ
 due term amount k = if bucketOf term is suc k then amount else 0
 
--- a coupon at the end of each of so many periods after a start
+-- a coupon at the end of each of so many periods after a start; kind 9's spread likewise
 unfoldable pub couponsDue : Term → ℕ → ℕ → ℕ → ℕ → ℕ
 couponsDue start period count coupon k = sum (λ j. due (later (period * suc j) start) coupon k) count
 
--- kinds 1 to 6
+-- kinds 1 to 6 and 9
 unfoldable pub flowOf : Flows → ℕ → ℕ → ℤ
 flowOf (single side term amount) i k = sided side (pos (due term amount k))
 flowOf (coupons side period count coupon principal) i k =
@@ -38,6 +38,8 @@ flowOf (floating side reset principal coupon) i k = sided side (pos (due reset (
 flowOf (deposit category total core) i k = negℤ (pos (depositFlow total core k))
 flowOf (loan share principals interests) i k = pos (loanFlow (prepaymentRate share i) principals interests k)
 flowOf (termDeposit share amounts) i k = negℤ (pos (termDepositFlow (withdrawalRate share i) amounts k))
+flowOf (floatingSpread side reset principal coupon period count spread) i k =
+    sided side (pos (couponsDue reset period count spread k + due reset (principal + coupon) k))
 
 -- an option and a curve make no flow
 unfoldable pub flow : Record → ℕ → ℕ → ℤ

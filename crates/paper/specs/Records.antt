@@ -14,7 +14,7 @@ currencies = 8
 
 -- the kinds: body bytes of 1, 2, .. in turn
 unfoldable pub kinds : List ℕ
-kinds = 9 ∷ 13 ∷ 13 ∷ 82 ∷ 155 ∷ 79 ∷ 26 ∷ 83 ∷ []
+kinds = 9 ∷ 13 ∷ 13 ∷ 82 ∷ 155 ∷ 79 ∷ 26 ∷ 83 ∷ 20 ∷ []
 
 -- 0 where there is no such kind
 unfoldable pub bodyLength : ℕ → ℕ
@@ -24,7 +24,7 @@ bodyLength kind = getD (0 ∷ kinds) kind 0
 unfoldable pub curveKind : ℕ → Bool
 curveKind kind = kind is 8
 
--- kinds 1 to 6: what has flows. Lists of amounts are by bucket
+-- kinds 1 to 6 and 9: what has flows. Lists of amounts are by bucket
 pub data Flows : Type 0 where
   single : (side : ℕ) → (term : Term) → (amount : ℕ) → Flows
   coupons : (side period count coupon principal : ℕ) → Flows
@@ -32,8 +32,9 @@ pub data Flows : Type 0 where
   deposit : (category total : ℕ) → (core : List ℕ) → Flows
   loan : (share : ℕ) → (principals interests : List ℕ) → Flows
   termDeposit : (share : ℕ) → (amounts : List ℕ) → Flows
+  floatingSpread : (side : ℕ) → (reset : Term) → (principal coupon period count spread : ℕ) → Flows
 
--- of a currency: flows (kinds 1 to 6), an option add-on (7), a curve (8). All but a curve are positions
+-- of a currency: flows (kinds 1 to 6 and 9), an option add-on (7), a curve (8). All but a curve are positions
 pub data Record : Type 0 where
   flows : (currency : ℕ) → Flows → Record
   option : (currency side : ℕ) → (values : List ℤ) → Record

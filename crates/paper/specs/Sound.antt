@@ -11,7 +11,7 @@ use Rattle.laws.specs.Sums.{sumOf}
 use Rattle.paper.specs.Scales.{billion}
 use Rattle.paper.specs.Ladder.{buckets, Term}
 use Rattle.paper.specs.Curve.{Curve, shockedRate}
-use Rattle.paper.specs.Records.{Flows, single, coupons, floating, deposit, loan, termDeposit, Record, flows, option, curve}
+use Rattle.paper.specs.Records.{Flows, single, coupons, floating, deposit, loan, termDeposit, floatingSpread, Record, flows, option, curve}
 use Rattle.paper.specs.TurnedDown.{badPeriod, coreAboveCap, coreTooLong, interestAlone}
 
 -- ---- fields
@@ -57,6 +57,9 @@ SoundFlows (loan share principals interests) =
     Between 0 10000 share × Amounts principals × Amounts interests × ((k : ℕ) → k < buckets → interestAlone principals interests k ≡ false)
     × (sumOf principals + sumOf interests ≤ billion)
 SoundFlows (termDeposit share amounts) = Between 0 10000 share × Amounts amounts
+SoundFlows (floatingSpread side reset principal coupon period count spread) =
+    Between 1 2 side × SoundTerm reset × Between 0 billion principal × Between 0 billion coupon
+    × (badPeriod period ≡ false) × Counted (reset .months) period count × Between 0 billion spread
 
 -- the currency had no curve; every rate is in range, in the base and in the six scenarios
 pub record SoundCurve (curved : ℕ → Bool) (c : ℕ) (z : Curve) : Type 0 where

@@ -24,7 +24,7 @@ abbrev pub into : {A : Type 0} → (Record → A → A) → Checked Record → A
 into with' (accepted r) parts = with' r parts
 into with' (refused q place) parts = parts
 
--- ---- kinds 1 to 6, in the 133 cells and 7 sizes
+-- ---- kinds 1 to 6 and 9, in the 133 cells and 7 sizes
 
 -- what was read, with 14 on these sizes
 unfoldable pub flowsFit : List ℕ → Checked Record → Checked Record

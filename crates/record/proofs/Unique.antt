@@ -16,8 +16,11 @@ use Rattle.record.specs.declared.single.DecodedSingle.{DecodedSingle}
 use Rattle.record.specs.declared.single.DecodedSingle.the-variants as ofSingle
 use Rattle.record.specs.declared.coupons.DecodedCoupons.{DecodedCoupons}
 use Rattle.record.specs.declared.coupons.DecodedCoupons.the-variants as ofCoupons
+use Rattle.record.specs.declared.floating.Floating.{Floating}
 use Rattle.record.specs.declared.floating.DecodedFloating.{DecodedFloating}
 use Rattle.record.specs.declared.floating.DecodedFloating.the-variants as ofFloating
+use Rattle.record.specs.declared.floating_spread.DecodedFloatingSpread.{DecodedFloatingSpread}
+use Rattle.record.specs.declared.floating_spread.DecodedFloatingSpread.the-variants as ofFloatingSpread
 use Rattle.record.specs.declared.deposit.DecodedDeposit.{DecodedDeposit}
 use Rattle.record.specs.declared.deposit.DecodedDeposit.the-variants as ofDeposit
 use Rattle.record.specs.declared.loan.DecodedLoan.{DecodedLoan}
@@ -28,8 +31,8 @@ use Rattle.record.specs.declared.option_add_on.DecodedOption.{DecodedOpt
 use Rattle.record.specs.declared.option_add_on.DecodedOption.the-variants as ofOption
 use Rattle.record.specs.declared.curves.DecodedCurve.{DecodedCurve}
 use Rattle.record.specs.declared.curves.DecodedCurve.the-variants as ofCurve
-use Rattle.record.specs.Answers.{singleOf, couponsOf, floatingOf, depositOf, loanOf, termDepositOf, valuesOf}
-use Rattle.record.specs.Answers.{singleRead, couponsRead, floatingRead, depositRead, loanRead, termDepositRead, optionRead, curveRead}
+use Rattle.record.specs.Answers.{singleOf, couponsOf, floatingOf, floatingSpreadOf, depositOf, loanOf, termDepositOf, valuesOf}
+use Rattle.record.specs.Answers.{singleRead, couponsRead, floatingRead, floatingSpreadRead, depositRead, loanRead, termDepositRead, optionRead, curveRead}
 
 -- an answer holds fields or a fault, and is read as what they say
 module _ {S D : Type 0} (is : S → D) (no : Fault → D) (read : D → Checked Record) (of : S → Record)
@@ -78,17 +81,33 @@ one-coupons = one ofCoupons.Is ofCoupons.Refused couponsRead (λ s. flows (s .cu
     let principal : s .principal .0 ≡ t .principal .0 = cc in
     λ i. record { currency = currency i; side = side i; period = period i; count = count i; coupon = thousands (coupon i); principal = thousands (principal i) })
 
+-- kind 3's fields, which kind 9 has too
+abbrev resetOf : Floating → Term
+resetOf f = record { months = f .months; days = f .days }
+
+same-floating : (f g : Floating) → f .currency ≡ g .currency → f .side ≡ g .side → resetOf f ≡ resetOf g → f .principal .0 ≡ g .principal .0 → f .coupon .0 ≡ g .coupon .0 → f ≡ g
+same-floating f g currency side reset principal coupon =
+    λ i. record { currency = currency i; side = side i; months = reset i .months; days = reset i .days; principal = thousands (principal i); coupon = thousands (coupon i) }
+
 pub one-floating : (a b : DecodedFloating) → floatingRead a ≡ floatingRead b → a ≡ b
 unfolding floatingRead
 one-floating = one ofFloating.Is ofFloating.Refused floatingRead (λ s. flows (s .currency) (floatingOf s)) (λ s. refl) (λ f. refl)
     (λ d. elim d [ ofFloating.Is s ↦ inl (s, refl) | ofFloating.Refused f ↦ inr (f, refl) ])
     (λ s t e.
-    let currency : s .currency ≡ t .currency = cc in
-    let side : s .side ≡ t .side = cc in
-    let term : _≡_ {A = Term} (record { months = s .months; days = s .days }) (record { months = t .months; days = t .days }) = cc in
-    let principal : s .principal .0 ≡ t .principal .0 = cc in
-    let coupon : s .coupon .0 ≡ t .coupon .0 = cc in
-    λ i. record { currency = currency i; side = side i; months = term i .months; days = term i .days; principal = thousands (principal i); coupon = thousands (coupon i) })
+    let reset : resetOf s ≡ resetOf t = cc in
+    same-floating s t (cc) (cc) reset (cc) (cc))
+
+pub one-floating-spread : (a b : DecodedFloatingSpread) → floatingSpreadRead a ≡ floatingSpreadRead b → a ≡ b
+unfolding floatingSpreadRead
+one-floating-spread = one ofFloatingSpread.Is ofFloatingSpread.Refused floatingSpreadRead (λ s. flows (s .floating .currency) (floatingSpreadOf s)) (λ s. refl) (λ f. refl)
+    (λ d. elim d [ ofFloatingSpread.Is s ↦ inl (s, refl) | ofFloatingSpread.Refused f ↦ inr (f, refl) ])
+    (λ s t e.
+    let reset : resetOf (s .floating) ≡ resetOf (t .floating) = cc in
+    let floating : s .floating ≡ t .floating = same-floating (s .floating) (t .floating) (cc) (cc) reset (cc) (cc) in
+    let period : s .period ≡ t .period = cc in
+    let count : s .count ≡ t .count = cc in
+    let spread : s .spread .0 ≡ t .spread .0 = cc in
+    λ i. record { floating = floating i; period = period i; count = count i; spread = thousands (spread i) })
 
 pub one-deposit : (body : List ℕ) (a b : DecodedDeposit) → depositRead body a ≡ depositRead body b → a ≡ b
 unfolding depositRead

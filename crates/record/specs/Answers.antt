@@ -5,10 +5,11 @@ use mathlib.Core.Path.{_≡_}
 use lib.IntN.{ℤ}
 use lib.ListN.{length}
 use Rattle.paper.specs.Refusals.{Checked, accepted, refused}
-use Rattle.paper.specs.Records.{Record, Flows, flows, option, curve, single, coupons, floating, deposit, loan, termDeposit, currencies}
+use Rattle.paper.specs.declared.Fault.{Fault}
+use Rattle.paper.specs.Records.{Record, Flows, flows, option, curve, single, coupons, floating, deposit, loan, termDeposit, floatingSpread, currencies}
 use Rattle.paper.specs.Fields.{currencyAt}
 use Rattle.curve.specs.Shocked.{curveOf}
-use Rattle.fields.specs.Answers.{amountsFrom, ratesFrom}
+use Rattle.fields.specs.Answers.{none, amountsFrom, ratesFrom}
 use Rattle.record.specs.declared.single.Single.{Single}
 use Rattle.record.specs.declared.single.DecodedSingle.{DecodedSingle}
 use Rattle.record.specs.declared.single.DecodedSingle.the-variants as ofSingle
@@ -18,6 +19,9 @@ use Rattle.record.specs.declared.coupons.DecodedCoupons.the-variants as 
 use Rattle.record.specs.declared.floating.Floating.{Floating}
 use Rattle.record.specs.declared.floating.DecodedFloating.{DecodedFloating}
 use Rattle.record.specs.declared.floating.DecodedFloating.the-variants as ofFloating
+use Rattle.record.specs.declared.floating_spread.FloatingSpread.{FloatingSpread}
+use Rattle.record.specs.declared.floating_spread.DecodedFloatingSpread.{DecodedFloatingSpread}
+use Rattle.record.specs.declared.floating_spread.DecodedFloatingSpread.the-variants as ofFloatingSpread
 use Rattle.record.specs.declared.deposit.Deposit.{Deposit}
 use Rattle.record.specs.declared.deposit.DecodedDeposit.{DecodedDeposit}
 use Rattle.record.specs.declared.deposit.DecodedDeposit.the-variants as ofDeposit
@@ -49,6 +53,11 @@ couponsOf s = coupons (s .side) (s .period) (s .count) (s .coupon .0) (s .princi
 abbrev pub floatingOf : Floating → Flows
 floatingOf s = floating (s .side) (record { months = s .months; days = s .days }) (s .principal .0) (s .coupon .0)
 
+abbrev pub floatingSpreadOf : FloatingSpread → Flows
+floatingSpreadOf s =
+    let f = s .floating in
+    floatingSpread (f .side) (record { months = f .months; days = f .days }) (f .principal .0) (f .coupon .0) (s .period) (s .count) (s .spread .0)
+
 abbrev pub depositOf : List ℕ → Deposit → Flows
 depositOf body s = deposit (s .category) (s .total .0) (amountsFrom body 6)
 
@@ -75,6 +84,15 @@ couponsRead (ofCoupons.Refused f) = refused (f .cause) (f .place)
 unfoldable pub floatingRead : DecodedFloating → Checked Record
 floatingRead (ofFloating.Is s) = accepted (flows (s .currency) (floatingOf s))
 floatingRead (ofFloating.Refused f) = refused (f .cause) (f .place)
+
+-- no fault of a record: it is never looked at
+abbrev pub floatingFaultIn : DecodedFloating → Fault
+floatingFaultIn (ofFloating.Is s) = none
+floatingFaultIn (ofFloating.Refused f) = f
+
+unfoldable pub floatingSpreadRead : DecodedFloatingSpread → Checked Record
+floatingSpreadRead (ofFloatingSpread.Is s) = accepted (flows (s .floating .currency) (floatingSpreadOf s))
+floatingSpreadRead (ofFloatingSpread.Refused f) = refused (f .cause) (f .place)
 
 unfoldable pub depositRead : List ℕ → DecodedDeposit → Checked Record
 depositRead body (ofDeposit.Is s) = accepted (flows (s .currency) (depositOf body s))

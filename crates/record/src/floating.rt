@@ -2,7 +2,7 @@
 ghost use mathlib.Core.Path.{_≡_};
 ghost use Rattle.paper.specs.Records.{currencies};
 ghost use Rattle.paper.specs.Decode.{decodeFloating};
-ghost use Rattle.record.specs.Answers.{Body, floatingRead};
+ghost use Rattle.record.specs.Answers.{Body, floatingRead, floatingFaultIn};
 use fields::Field;
 use fields::amounts::Amount;
 use fields::amounts::amount_at;
@@ -10,6 +10,7 @@ use fields::days_at;
 use fields::months_at;
 use fields::side_at;
 use paper::Fault;
+use paper::Refusal;
 use scales::Thousands;
 
 pub struct Floating {
@@ -24,6 +25,21 @@ pub struct Floating {
 pub enum DecodedFloating {
     Is(Floating),
     Refused(Fault),
+}
+
+impl DecodedFloating {
+    // For the `else` of a `let`, as of a field.
+    pub fn fault(self) -> Fault
+        ensures { λ r. ⌜ r ≡ floatingFaultIn self ⌝ }
+    {
+        match self {
+            DecodedFloating::Refused(fault) => fault,
+            DecodedFloating::Is(_) => Fault {
+                cause: Refusal::UnknownKind,
+                place: 0,
+            },
+        }
+    }
 }
 
 pub fn decode_floating(currency: u32, body: &[u8]) -> DecodedFloating

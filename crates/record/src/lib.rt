@@ -8,6 +8,7 @@ pub mod coupons;
 pub mod curves;
 pub mod deposit;
 pub mod floating;
+pub mod floating_spread;
 pub mod loan;
 pub mod option_add_on;
 pub mod single;

@@ -17,9 +17,9 @@ use Rattle.paper.specs.Flow.{sided, due, couponsDue, flowOf, flow, adds, magnit
 use Rattle.paper.specs.Ledger.{ofCurrency, used, curved}
 use Rattle.paper.specs.TurnedDown.{unknownKind, cutShort, badCurrency, badSide, badMonths, badDays, badPeriod, badCount, badAmount, badOption, badShare, badCategory, coreAboveCap, coreTooLong, interestAlone, secondCurve, badRate, badShock, badShocked, scheduleOver, flowsOver, optionsOver, overLimit, lacksCurve, badCapital, bookTooLong, roomTooSmall}
 use Rattle.paper.specs.Fields.{signed, field, each}
-use Rattle.paper.specs.Decode.{decodeSingle, decodeCoupons, decodeFloating, decodeDeposit, decodeLoan, decodeTermDeposit, decodeOption, decodeCurve, decode}
+use Rattle.paper.specs.Decode.{decodeSingle, decodeCoupons, decodeFloating, decodeDeposit, decodeLoan, decodeTermDeposit, decodeOption, decodeCurve, decodeFloatingSpread, decode}
 use Rattle.paper.specs.Book.{placed, admitted, recordAt, nextAt, walkFrom, walk, covered, outcome}
-use Rattle.paper.proofs.Bytes.{in4, below4, only, pair, singleBody, couponsBody, floatingBody, depositBody, loanBody, termDepositBody, optionBody, rates, curveBody}
+use Rattle.paper.proofs.Bytes.{in4, below4, only, pair, singleBody, couponsBody, floatingBody, floatingSpreadBody, depositBody, loanBody, termDepositBody, optionBody, rates, curveBody}
 
 -- ends as: number 0 and the count of records kept, or the refusal's number and place
 pub record Ending : Type 0 where
@@ -62,12 +62,16 @@ books =
     ∷ ends [] 0 0
     ∷ ends (0 ∷ []) 1 0
     ∷ ends (asset 1 5 ++ (255 ∷ [])) 1 10
+    ∷ ends (asset 1 5 ++ (10 ∷ [])) 1 10
     ∷ ends (1 ∷ []) 2 0
+    ∷ ends (asset 1 5 ++ (9 ∷ replicate 19 255)) 2 10
     ∷ ends (asset 1 5 ++ (5 ∷ replicate 154 255)) 2 10
     ∷ ends (1 ∷ singleBody 9 1 12 0 5) 3 0
     ∷ ends (asset 1 5 ++ (7 ∷ optionBody 1 3 (in4 0))) 4 10
     ∷ ends (asset 1 5 ++ (2 ∷ couponsBody 1 1 6 101 1 1)) 5 10
+    ∷ ends (asset 1 5 ++ (9 ∷ floatingSpreadBody 1 1 600 0 1 1 1 1 1)) 5 10
     ∷ ends (asset 1 5 ++ (3 ∷ floatingBody 1 1 12 0 1000000001 1)) 6 10
+    ∷ ends (asset 1 5 ++ (9 ∷ floatingSpreadBody 1 1 12 0 1 1 1 1 1000000001)) 6 10
     ∷ ends (6 ∷ termDepositBody 1 10001 (only 6 1)) 7 0
     ∷ ends (4 ∷ depositBody 1 4 1 (only 6 1)) 8 0
     ∷ ends (4 ∷ depositBody 1 1 1000 (only 2 901)) 9 0
@@ -79,10 +83,13 @@ books =
     ∷ ends (asset 1 600000000 ++ debt 1 400000000 ++ asset 1 1) 14 20
     ∷ ends (7 ∷ optionBody 1 1 (in4 1000000000) ++ (7 ∷ optionBody 1 2 (in4 1))) 14 27
     ∷ ends (5 ∷ loanBody 1 1000 (only 9 1000000000) (only 9 1)) 14 0
+    ∷ ends (asset 1 5 ++ (9 ∷ floatingSpreadBody 1 2 12 1 400000000 99999996 12 2 250000000)) 14 10
+    ∷ ends (9 ∷ floatingSpreadBody 3 1 0 0 0 0 1 1 0 ++ curve 1) 15 3
     ∷ ends (asset 7 1 ++ asset 3 1 ++ curve 7 ++ (7 ∷ optionBody 5 1 (in4 0))) 15 3
     ∷ ends (asset 1 500000000 ++ debt 1 500000000 ++ curve 1) 0 3
+    ∷ ends (asset 1 5 ++ (9 ∷ floatingSpreadBody 1 2 12 1 400000000 99999995 12 2 250000000) ++ curve 1) 0 3
     ∷ []
 
 pub books-end : map (λ r. r .gives) books ≡ map (λ r. r .stated) books
-unfolding books ends roomed endingOf rates any first sum total totalℤ some nearest nearestℤ factorial notAfter upperEnds bucketOf midpoints numberOf _>>=_ _>>_ unless denominator seriesTerm numerator billionOverE shortShare rateChanges shockedRate kinds bodyLength currencyOf isCurve prepaymentMultipliers withdrawalMultipliers behaviouralRate weighedCore depositFlow paid prepaid interest outstandingAt scheduledAt paidAt prepaidAt interestAt loanFlow moved termDepositFlow sided due couponsDue flowOf flow adds magnitude ofCurrency used curved unknownKind cutShort badCurrency badSide badMonths badDays badPeriod badCount badAmount badOption badShare badCategory coreAboveCap coreTooLong interestAlone secondCurve badRate badShock badShocked scheduleOver flowsOver optionsOver overLimit lacksCurve badCapital bookTooLong roomTooSmall signed field each decodeSingle decodeCoupons decodeFloating decodeDeposit decodeLoan decodeTermDeposit decodeOption decodeCurve decode placed admitted recordAt nextAt walkFrom walk covered outcome
+unfolding books ends roomed endingOf rates any first sum total totalℤ some nearest nearestℤ factorial notAfter upperEnds bucketOf midpoints numberOf _>>=_ _>>_ unless denominator seriesTerm numerator billionOverE shortShare rateChanges shockedRate kinds bodyLength currencyOf isCurve prepaymentMultipliers withdrawalMultipliers behaviouralRate weighedCore depositFlow paid prepaid interest outstandingAt scheduledAt paidAt prepaidAt interestAt loanFlow moved termDepositFlow sided due couponsDue flowOf flow adds magnitude ofCurrency used curved unknownKind cutShort badCurrency badSide badMonths badDays badPeriod badCount badAmount badOption badShare badCategory coreAboveCap coreTooLong interestAlone secondCurve badRate badShock badShocked scheduleOver flowsOver optionsOver overLimit lacksCurve badCapital bookTooLong roomTooSmall signed field each decodeSingle decodeCoupons decodeFloating decodeDeposit decodeLoan decodeTermDeposit decodeOption decodeCurve decodeFloatingSpread decode placed admitted recordAt nextAt walkFrom walk covered outcome
 books-end = refl

@@ -13,7 +13,7 @@ const fn number(number: u8, meaning: &'static str, look_at: &'static str) -> Exp
 static EXPLANATIONS: [Explanation; 18] = [
     number(
         1,
-        "unknown kind: where a record should begin, the byte is not a kind from 1 to 8.",
+        "unknown kind: where a record should begin, the byte is not a kind from 1 to 9.",
         "Look at the byte at the place. At place 0: does the file begin with capital? Then use bookkit show \
          --input. Later on: is the record before it of the length that its kind asks for, or did bytes get \
          lost?",
@@ -32,8 +32,9 @@ static EXPLANATIONS: [Explanation; 18] = [
     number(
         5,
         "bad months, days, period or count: months 0 to 600, days 0 to 30, period 1, 3, 6 or 12, count from 1 \
-         on and period times count at most 600 months.",
-        "Days from 31 on belong into months. Terms beyond 50 years cannot be reported.",
+         on, and the last month at most 600: period times count, for a floating-spread after its reset.",
+        "Days from 31 on belong into months. Terms beyond 50 years cannot be reported. The spread of a \
+         floating-spread falls a period after the reset for the first time.",
     ),
     number(
         6,

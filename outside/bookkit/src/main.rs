@@ -27,6 +27,7 @@ The text form has one record to a line. # begins a comment. Fields may come in a
   single-flow currency=1 side=asset months=241 days=0 amount=1000000
   fixed-coupons currency=1 side=liability period=6 count=10 coupon=25 principal=1000
   floating currency=1 side=asset months=3 days=0 principal=1000 coupon=12
+  floating-spread currency=1 side=asset months=9 days=1 principal=1000 coupon=12 period=3 count=4 spread=5
   non-maturity-deposit currency=1 category=1 total=1000 core=11-12:450
   prepayable-loan currency=1 share=1000 principals=9:1000 interests=1-8:10,9:100
   term-deposit currency=1 share=6000 amounts=6:1000

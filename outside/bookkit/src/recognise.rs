@@ -24,8 +24,8 @@ const BEGINNINGS: [(&[u8], &str); 7] = [
 /// So much of a file tells whether it is text.
 const SEEN: usize = 4_096;
 
-/// Says what the bytes are, if they plainly are something else. No good book and no good input is among them: both
-/// begin with a byte below 9.
+/// Says what the bytes are, if they plainly are something else. No good book and no good input is among them: the
+/// second byte of a book is a currency, the first of an input belongs to capital, and neither stands in text.
 pub fn something_else(bytes: &[u8], wanted: Wanted) -> Option<String> {
     let begins = BEGINNINGS.iter().find(|(beginning, _)| bytes.starts_with(beginning)).map(|(_, what)| *what);
     let found = begins.or_else(|| match wanted {

@@ -41,7 +41,7 @@ fn the_small_bank_has_all_kinds_in_two_currencies() {
     let (records, rest) = split(book);
     let kinds: BTreeSet<u8> = records.iter().map(|record| record[0]).collect();
     let currencies: BTreeSet<u8> = records.iter().map(|record| record[1]).collect();
-    assert_eq!((kinds.len(), currencies.len(), rest.len()), (8, 2, 0));
+    assert_eq!((kinds.len(), currencies.len(), rest.len()), (9, 2, 0));
     assert_eq!(show_input(&input).refusal.map(|refusal| refusal.number), None);
 }
 

@@ -3,10 +3,11 @@
 use crate::aimed_limits as limits;
 use crate::case::{joined, Case, Expected};
 use crate::draw::Draw;
-use crate::position::{bearable_rates, curve, position, record};
+use crate::position::{bearable_rates, curve, position, record, POSITIONS};
 use crate::valid;
 use reference::{
-    Item, Kind, Record, BUCKETS, GREATEST_CAPITAL, KINDS, LAST_MONTH, LEDGER_CELLS, LONGEST_BOOK, REPORT_CELLS,
+    periods_start, Item, Kind, Record, BUCKETS, GREATEST_CAPITAL, KINDS, LAST_MONTH, LEDGER_CELLS, LONGEST_BOOK,
+    REPORT_CELLS,
 };
 
 pub fn case(draw: &mut Draw, number: u8, out: bool) -> Case {
@@ -50,7 +51,7 @@ fn front(draw: &mut Draw, number: u8, currency: i64) -> Vec<u8> {
 /// Records of the aimed currency, of which the last is the aimed one.
 fn aimed_records(draw: &mut Draw, number: u8, currency: i64, out: bool) -> Vec<Vec<u8>> {
     let records = match number {
-        1 if out => return vec![vec![draw.pick(&[0, 9, 10, 128, 255])]],
+        1 if out => return vec![vec![draw.pick(&[0, 10, 11, 128, 255])]],
         2 if out => return vec![cut_short(draw, currency)],
         1 | 2 => vec![some_position(draw, currency)],
         9 => vec![limits::core_at_its_cap(draw, currency, out)],
@@ -75,7 +76,7 @@ fn second_curve(draw: &mut Draw, currency: i64) -> Record {
 }
 
 fn some_position(draw: &mut Draw, currency: i64) -> Record {
-    let kind = draw.between(1, 7) as u8;
+    let kind = draw.pick(&POSITIONS);
     position(draw, kind, currency, 1_000_000)
 }
 
@@ -100,11 +101,19 @@ fn field_at_its_edge(draw: &mut Draw, number: u8, currency: i64, out: bool) -> R
     let value = match field.item {
         Item::Period if out => draw.pick(&[0, 2, 4, 5, 7, 11, 13, 255]),
         Item::Period => return plain,
-        Item::Count => edge(draw, Item::Count, 1, LAST_MONTH / plain.one("period"), out),
         Item::Currency if !out => currency,
-        item => edge(draw, item, *item.allowed().1.start(), *item.allowed().1.end(), out),
+        item => edge(draw, item, *item.allowed().1.start(), greatest(&plain, item), out),
     };
     plain.with(field.name, draw.index(field.times), value)
+}
+
+/// The greatest good number of a field where the record's others stay as they are: the last month is at most 600.
+fn greatest(record: &Record, item: Item) -> i64 {
+    match (item, record.kind.number) {
+        (Item::Count, _) => (LAST_MONTH - periods_start(record)) / record.one("period"),
+        (Item::Months, 9) => LAST_MONTH - record.one("period") * record.one("count"),
+        _ => *item.allowed().1.end(),
+    }
 }
 
 /// An end of the range, or a number next to it or far beyond it that the field's bytes can still hold.
@@ -140,7 +149,7 @@ fn missing_curve(draw: &mut Draw, out: bool) -> Case {
     let length = draw.between(0, 400) as usize;
     let mut records = valid::records(draw, others, length);
     for currency in lacking {
-        let kind = draw.between(1, 7) as u8;
+        let kind = draw.pick(&POSITIONS);
         let most = draw.pick(&[0, 1_000_000]);
         records.push(position(draw, kind, *currency, most));
         if !out {

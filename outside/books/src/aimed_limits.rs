@@ -1,7 +1,7 @@
 //! Records at the limits that 9, 10, 11 and 14 set: exactly at them, or one step beyond.
 
 use crate::draw::Draw;
-use crate::position::{position, record};
+use crate::position::{position, record, KINDS_WITH_FLOWS};
 use reference::{flows, Record, BUCKETS, CORE_CAPS, GREATEST_GROSS, SCENARIOS};
 
 fn step(out: bool) -> i64 {
@@ -85,7 +85,7 @@ fn options_at_the_limit(draw: &mut Draw, currency: i64, out: bool) -> Vec<Record
 
 /// A position of any kind that makes flows, behind single flows of either side that leave room for just it.
 fn flows_at_the_limit(draw: &mut Draw, currency: i64, out: bool) -> Vec<Record> {
-    let kind = draw.between(1, 6) as u8;
+    let kind = draw.pick(&KINDS_WITH_FLOWS);
     let last = position(draw, kind, currency, GREATEST_GROSS);
     let gross = |ladder: &[i64; BUCKETS]| ladder.iter().map(|flow| flow.abs()).sum::<i64>();
     let greatest = flows(&last).iter().map(gross).max().expect("seven ladders");

@@ -6,12 +6,16 @@ use reference::{rate_changes, Kind, Record, BUCKETS, CORE_CAPS, LAST_MONTH, MIDP
 const LAST_DAY: i64 = 30;
 const WHOLE_SHARE: i64 = 10_000;
 
+/// The kinds that are positions; of these, the kinds that make flows.
+pub const POSITIONS: [u8; 8] = [1, 2, 3, 4, 5, 6, 7, 9];
+pub const KINDS_WITH_FLOWS: [u8; 7] = [1, 2, 3, 4, 5, 6, 9];
+
 /// A record from its values as laid out.
 pub fn record(kind: u8, values: &[i64]) -> Record {
     Record::new(Kind::numbered(kind).expect("a known kind"), values.to_vec())
 }
 
-/// A position of kind 1 to 7 whose flows (kind 7: values) come to at most `most` in every scenario.
+/// A position whose flows (kind 7: values) come to at most `most` in every scenario.
 pub fn position(draw: &mut Draw, kind: u8, currency: i64, most: i64) -> Record {
     let values = match kind {
         1 => single_flow(draw, most),
@@ -20,7 +24,9 @@ pub fn position(draw: &mut Draw, kind: u8, currency: i64, most: i64) -> Record {
         4 => non_maturity_deposit(draw, most),
         5 => prepayable_loan(draw, most),
         6 => [vec![share(draw)], draw.split(most, BUCKETS)].concat(),
-        _ => option_add_on(draw, most),
+        7 => option_add_on(draw, most),
+        9 => floating_spread(draw, most),
+        _ => panic!("kind {kind} is no position"),
     };
     record(kind, &[&[currency][..], &values].concat())
 }
@@ -67,6 +73,19 @@ fn floating(draw: &mut Draw, most: i64) -> Vec<i64> {
     let (months, days) = term(draw);
     let principal = draw.amount(most);
     vec![side(draw), months, days, principal, draw.amount(most - principal)]
+}
+
+/// The reset leaves room for a period; every other one has as many periods as fit, so that the last month is often 600.
+fn floating_spread(draw: &mut Draw, most: i64) -> Vec<i64> {
+    let period = draw.pick(&[1, 3, 6, 12]);
+    let (months, days) = term(draw);
+    let months = months.min(LAST_MONTH - period);
+    let periods = (LAST_MONTH - months) / period;
+    let count = if draw.coin() { periods } else { 1 + draw.amount(periods - 1) };
+    let spread = draw.amount(most / count);
+    let principal = draw.amount(most - spread * count);
+    let coupon = draw.amount(most - spread * count - principal);
+    vec![side(draw), months, days, principal, coupon, period, count, spread]
 }
 
 /// Core that lies too far out for its category is brought down to bucket 1, from the top.

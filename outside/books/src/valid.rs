@@ -1,7 +1,7 @@
 //! Whole books that are accepted, of every size.
 
 use crate::draw::Draw;
-use crate::position::{curve, position};
+use crate::position::{curve, position, POSITIONS};
 use reference::{Kind, Record, GREATEST_GROSS, LONGEST_BOOK};
 use std::collections::BTreeMap;
 
@@ -45,12 +45,12 @@ fn record_length(kind: u8) -> usize {
 
 /// Kinds of positions until the next one would not fit. Some books keep to two kinds, so that records get many.
 fn kinds_up_to(draw: &mut Draw, length: usize) -> Vec<u8> {
-    let few = [draw.between(1, 7) as u8, draw.between(1, 7) as u8];
+    let few = [draw.pick(&POSITIONS), draw.pick(&POSITIONS)];
     let keeps_to_few = draw.once_in(3);
     let mut kinds = Vec::new();
     let mut left = length;
     loop {
-        let kind = if keeps_to_few { draw.pick(&few) } else { draw.between(1, 7) as u8 };
+        let kind = if keeps_to_few { draw.pick(&few) } else { draw.pick(&POSITIONS) };
         if record_length(kind) > left {
             return kinds;
         }

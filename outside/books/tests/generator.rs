@@ -21,7 +21,7 @@ fn good_books_have_every_kind_every_currency_and_the_greatest_length() {
         longest = longest.max(book.len());
         split(&book).0.iter().for_each(|record| *seen.entry((record[0], record[1])).or_insert(0) += 1);
     }
-    assert_eq!((seen.len(), longest), (8 * 8, LONGEST_BOOK));
+    assert_eq!((seen.len(), longest), (9 * 8, LONGEST_BOOK));
     assert!(seen.values().all(|times| *times > 100), "{seen:?}");
 }
 

@@ -9,6 +9,7 @@ pub const RATES: RangeInclusive<i64> = -50_000..=300_000;
 pub const LAST_MONTH: i64 = 600;
 const GREATEST_AMOUNT: i64 = 1_000_000_000;
 const CURVE: u8 = 8;
+const FLOATING_SPREAD: u8 = 9;
 
 /// Judges every field in turn. `has_curve` says whether a currency has a curve from an earlier record.
 pub fn check_fields(record: &Record, has_curve: impl Fn(i64) -> bool) -> Result<(), Fault> {
@@ -55,7 +56,7 @@ fn check_value(record: &Record, field: &Field, index: usize, value: i64) -> Resu
         format!("{name}{position} is {value}, outside {} to {}", allowed.start(), allowed.end())
     })?;
     if field.item == Item::Count {
-        check_count(record.one("period"), value)?;
+        check_last_month(record, value)?;
     }
     Ok(())
 }
@@ -72,9 +73,21 @@ fn check_period(period: i64) -> Result<(), Fault> {
     demand([1, 3, 6, 12].contains(&period), 5, || format!("period is {period}, not 1, 3, 6 or 12"))
 }
 
-/// The term of all coupons is tested with the count, hence before the coupon.
-fn check_count(period: i64, count: i64) -> Result<(), Fault> {
-    demand(period * count <= LAST_MONTH, 5, || {
-        format!("period {period} times count {count} is {} months, above {LAST_MONTH}", period * count)
+/// Months from which a record counts its periods: from the reset of a floating position, else from today.
+pub fn periods_start(record: &Record) -> i64 {
+    if record.kind.number == FLOATING_SPREAD {
+        record.one("months")
+    } else {
+        0
+    }
+}
+
+/// The last month is tested with the count, hence before what is laid out after it.
+fn check_last_month(record: &Record, count: i64) -> Result<(), Fault> {
+    let (start, period) = (periods_start(record), record.one("period"));
+    let last = start + period * count;
+    demand(last <= LAST_MONTH, 5, || {
+        let after = if start == 0 { String::new() } else { format!(" after {start} months") };
+        format!("period {period} times count {count}{after} ends at {last} months, above {LAST_MONTH}")
     })
 }

@@ -1,5 +1,6 @@
 //! The flows of one record in the base and in each scenario (01, "Records").
 
+use crate::fields::periods_start;
 use crate::ladder::{bucket_index, BUCKETS, MIDPOINTS};
 use crate::layout::{Record, SCENARIOS};
 use crate::refusal::{demand, Fault};
@@ -39,6 +40,7 @@ pub fn flows(record: &Record) -> Flows {
         4 => in_every_scenario(non_maturity_deposit(record)),
         5 => LOAN_MULTIPLES.map(|multiple| prepayable_loan(record, rate(record, multiple))),
         6 => TERM_DEPOSIT_MULTIPLES.map(|multiple| term_deposit(record, rate(record, multiple))),
+        9 => in_every_scenario(floating_spread(record)),
         _ => in_every_scenario([0; BUCKETS]),
     }
 }
@@ -66,14 +68,26 @@ fn at_term(record: &Record, amount: i64) -> Ladder {
 }
 
 fn fixed_coupons(record: &Record) -> Ladder {
-    let (period, count) = (record.one("period"), record.one("count"));
-    let coupon = sign(record) * record.one("coupon");
     let mut ladder = [0; BUCKETS];
-    for number in 1..=count {
-        ladder[bucket_index(number * period, 0)] += coupon;
-    }
-    ladder[bucket_index(count * period, 0)] += sign(record) * record.one("principal");
+    add_regular(&mut ladder, record, "coupon", 0);
+    let last = record.one("count") * record.one("period");
+    ladder[bucket_index(last, 0)] += sign(record) * record.one("principal");
     ladder
+}
+
+fn floating_spread(record: &Record) -> Ladder {
+    let mut ladder = at_term(record, record.one("principal") + record.one("coupon"));
+    add_regular(&mut ladder, record, "spread", record.one("days"));
+    ladder
+}
+
+/// The amount of a field at the end of each period, so many days later.
+fn add_regular(ladder: &mut Ladder, record: &Record, field: &str, days: i64) {
+    let start = periods_start(record);
+    for number in 1..=record.one("count") {
+        let months = start + number * record.one("period");
+        ladder[bucket_index(months, days)] += sign(record) * record.one(field);
+    }
 }
 
 /// 9 and 10.

@@ -96,15 +96,13 @@ const MONTHS: Field = one("months", Item::Months);
 const DAYS: Field = one("days", Item::Days);
 const PRINCIPAL: Field = one("principal", Item::Amount);
 const COUPON: Field = one("coupon", Item::Amount);
+const PERIOD: Field = one("period", Item::Period);
+const COUNT: Field = one("count", Item::Count);
 const SHARE: Field = one("share", Item::Share);
 
-pub static KINDS: [Kind; 8] = [
+pub static KINDS: [Kind; 9] = [
     Kind { number: 1, name: "single-flow", fields: &[CURRENCY, SIDE, MONTHS, DAYS, one("amount", Item::Amount)] },
-    Kind {
-        number: 2,
-        name: "fixed-coupons",
-        fields: &[CURRENCY, SIDE, one("period", Item::Period), one("count", Item::Count), COUPON, PRINCIPAL],
-    },
+    Kind { number: 2, name: "fixed-coupons", fields: &[CURRENCY, SIDE, PERIOD, COUNT, COUPON, PRINCIPAL] },
     Kind { number: 3, name: "floating", fields: &[CURRENCY, SIDE, MONTHS, DAYS, PRINCIPAL, COUPON] },
     Kind {
         number: 4,
@@ -136,6 +134,21 @@ pub static KINDS: [Kind; 8] = [
             one("parallel", Item::Shock),
             one("short", Item::Shock),
             one("long", Item::Shock),
+        ],
+    },
+    Kind {
+        number: 9,
+        name: "floating-spread",
+        fields: &[
+            CURRENCY,
+            SIDE,
+            MONTHS,
+            DAYS,
+            PRINCIPAL,
+            COUPON,
+            PERIOD,
+            COUNT,
+            one("spread", Item::Amount),
         ],
     },
 ];

@@ -25,7 +25,7 @@ pub use answer::{Answer, Request, GREATEST_CAPITAL, LONGEST_BOOK};
 pub use curve::{rate_changes, Curve};
 pub use discount::{computed_factor, exact_factor, exponent, meets_a_half};
 pub use exact::Exact;
-pub use fields::{LAST_MONTH, RATES};
+pub use fields::{periods_start, LAST_MONTH, RATES};
 pub use flows::{flows, Flows, CORE_CAPS, GREATEST_GROSS};
 pub use fraction::Fraction;
 pub use irreport::{answer_input, irreport, split_input, CAPITAL_BYTES};

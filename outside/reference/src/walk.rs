@@ -36,7 +36,7 @@ pub fn walk(book: &[u8]) -> Result<Positions, Refusal> {
                 place += record.length();
             }
             Step::UnknownKind(number) => {
-                return Err(Fault { number: 1, because: format!("kind is {number}, outside 1 to 8") }.at(place));
+                return Err(Fault { number: 1, because: format!("kind is {number}, outside 1 to 9") }.at(place));
             }
             Step::CutShort { kind, left } => {
                 let because =

@@ -1,8 +1,8 @@
--- `take_body`: the functions of the eight kinds, and no such kind.
+-- `take_body`: the functions of the kinds, and no such kind.
 use mathlib.Core.Bool.{false}
 use borrow.Author.Needs.{needs}
 use Rattle.paper.specs.Records.{currencies}
-use Rattle.paper.proofs.KindTable.{single-kind, coupons-kind, floating-kind, deposit-kind, loan-kind, term-deposit-kind, option-kind, curve-kind, row-1, row-2, row-3, row-4, row-5, row-6, row-7, row-8}
+use Rattle.paper.proofs.KindTable.{single-kind, coupons-kind, floating-kind, deposit-kind, loan-kind, term-deposit-kind, option-kind, curve-kind, floating-spread-kind, row-1, row-2, row-3, row-4, row-5, row-6, row-7, row-8, row-9}
 use Rattle.kinds.proofs.Bodies.{row-body, flow-parts, option-parts, rate-parts, flows-body, option-body, curve-body, unknown-body}
 use Rattle.kinds.proofs.take_body.Statement.{statement}
 use Rattle.kinds.proofs.take_body.Tie as tie
@@ -30,6 +30,9 @@ take-option-requires c κs = let s = c .before .before .before .before .before .
 
 take-curve-requires : tie.Need-take-curve-requires
 take-curve-requires c κs = let s = c .before .before .before .before .before in (row-body (row-8 currencies (λ _. false)) (c .before .match .keys8) (s .pre .0), rate-parts (s .pre .1))
+
+take-floating-spread-requires : tie.Need-take-floating-spread-requires
+take-floating-spread-requires c κs = let s = c .before .before .before .before .before .before in (row-body (row-9 currencies (λ _. false)) (c .before .before .match .keys9) (s .pre .0), flow-parts (s .pre .1))
 
 same-length : tie.Need-same-length
 same-length c = search needs
@@ -100,8 +103,17 @@ same-length-15 c = search needs
 returns-8 : tie.Need-returns-8
 returns-8 c = curve-body _ _ (c .before .before .before .before .before .before .before .pre .1) _ (row-8 currencies _) (c .before .before .before .match .keys8) (curve-kind currencies _ _ .only) (c .before .take-curve .ensures)
 
+same-length-16 : tie.Need-same-length-16
+same-length-16 c = search needs
+
+same-length-17 : tie.Need-same-length-17
+same-length-17 c = search needs
+
 returns-9 : tie.Need-returns-9
-returns-9 c = unknown-body _ _ _ _ (c .match .rest)
+returns-9 c = flows-body _ _ (c .before .before .before .before .before .before .before .before .before .before .pre .1) _ (row-9 currencies _) (c .before .before .before .before .before .before .match .keys9) (floating-spread-kind currencies (λ _. false) _ .only) (c .before .before .before .take-floating-spread .ensures)
+
+returns-10 : tie.Need-returns-10
+returns-10 c = unknown-body _ _ _ _ (c .match .rest)
 
 pub take-body-spec : {M : Type 1} → statement M
 take-body-spec =
@@ -115,6 +127,7 @@ take-body-spec =
     take-term-deposit-requires
     take-option-requires
     take-curve-requires
+    take-floating-spread-requires
     same-length
     same-length-2
     returns
@@ -138,4 +151,7 @@ take-body-spec =
     returns-7
     same-length-15
     returns-8
-    returns-9)
+    same-length-16
+    same-length-17
+    returns-9
+    returns-10)

@@ -58,12 +58,13 @@ fn a_value_earns_its_refusal_just_outside_its_range() {
     }
 }
 
-/// The page's record, changed so that no other rule gives the number of a field: one coupon of a month; rates that
-/// every shock leaves in range.
+/// The page's record, changed so that no other rule gives the number of a field: one period of a month, from today on;
+/// rates that every shock leaves in range.
 fn roomy(kind: u8) -> Record {
     let record = worked(kind);
     match kind {
         2 => record.with("period", 0, 1).with("count", 0, 1),
+        9 => record.with("months", 0, 0).with("period", 0, 1).with("count", 0, 1),
         8 => {
             let unshocked = record.with("parallel", 0, 0).with("short", 0, 0).with("long", 0, 0);
             (0..19).fold(unshocked, |record, index| record.with("rates", index, 100_000))

@@ -81,6 +81,7 @@ fn the_flows_named_are_those_of_the_records() {
         [100, 90, 81, 72, 65, 59, 53, 48, 432 + 43]
     );
     assert_eq!((flow(6, 1, 1), flow(6, 1, 6)), (-720, -280));
+    assert_eq!([5, 6, 7, 8, 9].map(|bucket| flow(9, 0, bucket)), [0, 1_012, 10, 10, 0]);
 }
 
 #[test]

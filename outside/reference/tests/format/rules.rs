@@ -20,6 +20,7 @@ fn each_rule_has_its_number() {
     let earned = [
         number_of(cut, 1),
         earned(&[worked(2).with("count", 0, 101)]),
+        earned(&[worked(9).with("months", 0, 589)]),
         earned(&[worked(4).with("core", 10, 451)]),
         earned(&[worked(4).with("core", 10, 449).with("core", 11, 451)]),
         earned(&[worked(5).with("interests", 9, 1)]),
@@ -41,6 +42,7 @@ fn each_rule_has_its_number() {
 fn at_their_caps_they_pass() {
     let (flow, curve) = (worked(1), worked(8));
     assert_eq!(earned(&[worked(2).with("count", 0, 100), curve.clone()]), None);
+    assert_eq!(earned(&[worked(9).with("months", 0, 588), curve.clone()]), None);
     assert_eq!(earned(&[worked(4), curve.clone()]), None);
     let whole = [flow.with("amount", 0, 999_999_999), flow.with("amount", 0, 1).with("side", 0, 2), curve];
     assert_eq!(earned(&whole), None);

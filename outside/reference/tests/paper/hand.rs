@@ -18,6 +18,11 @@ pub fn floating(currency: u8, side: u8, months: u16, days: u8, principal: u32, c
     [&head[..], &principal.to_be_bytes(), &coupon.to_be_bytes()].concat()
 }
 
+/// Period, count and spread come after the fields of a floating position.
+pub fn floating_spread(floating: Vec<u8>, period: u8, count: u16, spread: u32) -> Vec<u8> {
+    [&[9][..], &floating[1..], &[period], &count.to_be_bytes(), &spread.to_be_bytes()].concat()
+}
+
 pub fn deposit(currency: u8, category: u8, total: u32, core: [u32; 19]) -> Vec<u8> {
     [&[4, currency, category][..], &total.to_be_bytes(), &amounts(core)].concat()
 }

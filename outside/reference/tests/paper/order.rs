@@ -57,6 +57,24 @@ fn floating_in_turn() {
 }
 
 #[test]
+fn floating_spread_in_turn() {
+    assert_turn(vec![
+        (floating_spread(floating(9, 3, 601, 31, BAD, BAD), 2, 0, BAD)[..20].to_vec(), Some(2)),
+        (floating_spread(floating(9, 3, 601, 31, BAD, BAD), 2, 0, BAD), Some(3)),
+        (floating_spread(floating(1, 3, 601, 31, BAD, BAD), 2, 0, BAD), Some(4)),
+        (floating_spread(floating(1, 2, 601, 31, BAD, BAD), 2, 0, BAD), Some(5)),
+        (floating_spread(floating(1, 2, 588, 31, BAD, BAD), 2, 0, BAD), Some(5)),
+        (floating_spread(floating(1, 2, 588, 30, BAD, BAD), 2, 0, BAD), Some(6)),
+        (floating_spread(floating(1, 2, 588, 30, BILLION, BAD), 2, 0, BAD), Some(6)),
+        (floating_spread(floating(1, 2, 588, 30, BILLION, BILLION), 2, 0, BAD), Some(5)),
+        (floating_spread(floating(1, 2, 588, 30, BILLION, BILLION), 12, 2, BAD), Some(5)),
+        (floating_spread(floating(1, 2, 588, 30, BILLION, BILLION), 12, 1, BAD), Some(6)),
+        (floating_spread(floating(1, 2, 588, 30, BILLION, BILLION), 12, 1, BILLION), Some(14)),
+        (floating_spread(floating(1, 2, 588, 30, 0, 0), 12, 1, BILLION), None),
+    ]);
+}
+
+#[test]
 fn non_maturity_deposit_in_turn() {
     assert_turn(vec![
         (deposit(9, 4, BAD, BAD_LADDER), Some(3)),

@@ -33,13 +33,14 @@ fn one_of_each() -> Vec<Vec<u8>> {
         term_deposit(1, 100, in_buckets(&[(4, 9)])),
         options(1, 1, [1, -2, 3, -4, 5, -6]),
         flat_curve(2, 10),
+        floating_spread(floating(1, 2, 3, 30, 7, 1), 6, 5, 2),
     ]
 }
 
 #[test]
 fn number_1_unknown_kind() {
     assert_in(one_of_each());
-    assert_out(1, [vec![0], vec![9], vec![255], vec![9; 200]]);
+    assert_out(1, [vec![0], vec![10], vec![255], vec![10; 200]]);
 }
 
 #[test]
@@ -48,7 +49,7 @@ fn number_2_body_cut_short() {
         assert_out(2, [record[..1].to_vec(), record[..2].to_vec(), record[..record.len() - 1].to_vec()]);
     }
     let lengths: Vec<usize> = one_of_each().iter().map(|record| record.len() - 1).collect();
-    assert_eq!(lengths, [9, 13, 13, 82, 155, 79, 26, 83], "the hand that writes the records follows the paper's table");
+    assert_eq!(lengths, [9, 13, 13, 82, 155, 79, 26, 83, 20], "the hand that writes the records follows the paper's table");
 }
 
 #[test]
@@ -68,7 +69,7 @@ fn number_3_bad_currency() {
 
 #[test]
 fn number_4_bad_side() {
-    for record in one_of_each().into_iter().filter(|record| [1, 2, 3, 7].contains(&record[0])) {
+    for record in one_of_each().into_iter().filter(|record| [1, 2, 3, 7, 9].contains(&record[0])) {
         let on_side = |side: u8| [&record[..2], &[side], &record[3..]].concat();
         assert_in([1, 2].map(on_side));
         assert_out(4, [0, 3, 255].map(on_side));
@@ -97,6 +98,17 @@ fn number_5_bad_period_or_count() {
     assert_out(5, [0, 2, 4, 5, 7, 11, 13, 255].map(|period| fixed_coupons(1, 1, period, 1, 1, 1)));
 }
 
+/// The last month counts from the reset, and its days do not: nothing is left after a reset at 600 months.
+#[test]
+fn number_5_of_a_spread() {
+    let with = |(months, days, period, count)| floating_spread(floating(1, 1, months, days, 1, 1), period, count, 1);
+    assert_in([(0, 0, 1, 600), (0, 30, 12, 50), (599, 30, 1, 1), (588, 30, 12, 1), (300, 0, 3, 100)].map(with));
+    assert_out(5, [(0, 0, 1, 601), (1, 0, 1, 600), (589, 0, 12, 1), (588, 0, 12, 2), (301, 0, 3, 100)].map(with));
+    assert_out(5, [1, 2, 50, 65_535].map(|count| with((600, 0, 1, count))));
+    assert_out(5, [(0, 0, 1, 0), (600, 0, 12, 0), (601, 0, 1, 1), (0, 31, 1, 1)].map(with));
+    assert_out(5, [0, 2, 4, 5, 7, 11, 13, 255].map(|period| with((0, 0, period, 1))));
+}
+
 #[test]
 fn number_6_amounts() {
     for (amount, number) in [(BILLION, None), (BILLION + 1, Some(6)), (1 << 31, Some(6)), (u32::MAX, Some(6))] {
@@ -106,6 +118,9 @@ fn number_6_amounts() {
         assert_eq!(number_of(fixed_coupons(1, 1, 1, 1, 0, amount)), number);
         assert_eq!(number_of(floating(1, 1, 1, 0, amount, 0)), number);
         assert_eq!(number_of(floating(1, 1, 1, 0, 0, amount)), number);
+        assert_eq!(number_of(floating_spread(floating(1, 1, 1, 0, amount, 0), 1, 1, 0)), number);
+        assert_eq!(number_of(floating_spread(floating(1, 1, 1, 0, 0, amount), 1, 1, 0)), number);
+        assert_eq!(number_of(floating_spread(floating(1, 1, 1, 0, 0, 0), 1, 1, amount)), number);
         assert_eq!(number_of(deposit(1, 1, amount, nil())), number);
         assert_eq!(number_of(loan(1, 0, lone(19), nil())), number);
         assert_eq!(number_of(term_deposit(1, 0, lone(19))), number);
@@ -215,7 +230,7 @@ fn number_16_and_17_by_the_length_of_the_input() {
     for length in 0..8 {
         assert_eq!(irreport(&vec![1; length]), "R 16 0\n");
     }
-    let input = |length: usize| [&1u64.to_be_bytes()[..], &vec![9; length - 8]].concat();
+    let input = |length: usize| [&1u64.to_be_bytes()[..], &vec![255; length - 8]].concat();
     assert_eq!(irreport(&input(65_536)), "R 1 0\n");
     assert_eq!(irreport(&input(65_537)), "R 17 0\n");
     assert_eq!(irreport(&[0; 65_537]), "R 17 0\n", "17 comes before 16");
@@ -223,6 +238,6 @@ fn number_16_and_17_by_the_length_of_the_input() {
 
 #[test]
 fn number_17_book_too_long() {
-    let number = |length: usize| Request::roomy(&vec![9; length], 1).answer().refused();
+    let number = |length: usize| Request::roomy(&vec![255; length], 1).answer().refused();
     assert_eq!((number(65_528), number(65_529)), (Some((1, 0)), Some((17, 0))));
 }

@@ -32,6 +32,24 @@ fn floating_falls_at_the_reset() {
     assert_eq!((flows[3], flows.iter().sum::<i64>()), (1_010, 1_010));
 }
 
+/// Principal and coupon at the reset; the spread a period after it for the first time, and at the same days.
+#[test]
+fn a_spread_falls_after_each_period_from_the_reset() {
+    let flows = |floating, period, count| net_flows(floating_spread(floating, period, count, 5), 4);
+    let expected = |named: &[(usize, i64)]| {
+        let mut ladder = [0; 19];
+        named.iter().for_each(|(bucket, flow)| ladder[bucket - 1] = *flow);
+        ladder
+    };
+    let reset = |months, days| floating(1, 1, months, days, 1_000, 10);
+    assert_eq!(flows(reset(9, 0), 3, 4), expected(&[(5, 1_010), (6, 5), (7, 10), (8, 5)]));
+    assert_eq!(flows(reset(9, 1), 3, 4), expected(&[(6, 1_010), (7, 10), (8, 10)]), "12 months and a day");
+    assert_eq!(flows(reset(0, 1), 12, 1), expected(&[(1, 1_010), (7, 5)]), "past the end of 12 months");
+    assert_eq!(flows(reset(0, 0), 12, 1), expected(&[(1, 1_010), (6, 5)]));
+    assert_eq!(flows(reset(240, 0), 12, 30), expected(&[(18, 1_010), (19, 150)]), "up to month 600");
+    assert_eq!(flows(floating(1, 2, 1, 30, 7, 0), 1, 2), expected(&[(3, -12), (4, -5)]));
+}
+
 #[test]
 fn what_is_not_core_joins_bucket_1() {
     let flows = net_flows(deposit(1, 3, 1_000, in_buckets(&[(1, 100), (9, 200)])), 6);
@@ -136,4 +154,6 @@ fn the_layout_writes_what_the_hand_writes() {
     assert_eq!(by_layout(6, [&[1, 400][..], &counted].concat()), term_deposit(1, 400, amounts));
     assert_eq!(by_layout(7, vec![1, 2, 1, -2, 3, -4, 5, -6]), options(1, 2, [1, -2, 3, -4, 5, -6]));
     assert_eq!(by_layout(8, [&[1][..], &[-7; 19], &[1, 2, 3]].concat()), curve(1, [-7; 19], [1, 2, 3]));
+    let spread = floating_spread(floating(1, 2, 300, 5, 70_000, 7), 12, 25, 900);
+    assert_eq!(by_layout(9, vec![1, 2, 300, 5, 70_000, 7, 12, 25, 900]), spread);
 }
