@@ -1,7 +1,7 @@
 //! The generator keeps what it promises: it reaches every number at its edges, every kind and every size.
 
 use books::{aimed_case, case, good_case, Draw, Expected};
-use reference::{split, Answer, LONGEST_BOOK};
+use reference::{bucket_index, split, step, Answer, Step, LONGEST_BOOK};
 use std::collections::BTreeMap;
 
 #[test]
@@ -23,6 +23,23 @@ fn good_books_have_every_kind_every_currency_and_the_greatest_length() {
     }
     assert_eq!((seen.len(), longest), (9 * 8, LONGEST_BOOK));
     assert!(seen.values().all(|times| *times > 100), "{seen:?}");
+}
+
+/// Spreads up to the last month of all, and spreads that only their days carry past the end of a bucket.
+#[test]
+fn good_books_have_spreads_at_their_edges() {
+    let (mut last, mut carried) = (0, 0);
+    for seed in 0..1_000 {
+        let book = good_case(&mut Draw::seeded(seed)).book;
+        for bytes in split(&book).0.into_iter().filter(|bytes| bytes[0] == 9) {
+            let Step::Whole(record) = step(bytes, 0) else { panic!("{bytes:?}") };
+            let (reset, days, period) = (record.one("months"), record.one("days"), record.one("period"));
+            let months = (1..=record.one("count")).map(|number| reset + number * period);
+            last += u32::from(months.clone().max() == Some(600));
+            carried += months.filter(|month| bucket_index(*month, days) != bucket_index(*month, 0)).count();
+        }
+    }
+    assert!(last > 1_000 && carried > 1_000, "{last} up to month 600, {carried} past an end by days");
 }
 
 /// The place and the number come from how the case was made, not from the reference.

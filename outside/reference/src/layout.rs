@@ -139,17 +139,7 @@ pub static KINDS: [Kind; 9] = [
     Kind {
         number: 9,
         name: "floating-spread",
-        fields: &[
-            CURRENCY,
-            SIDE,
-            MONTHS,
-            DAYS,
-            PRINCIPAL,
-            COUPON,
-            PERIOD,
-            COUNT,
-            one("spread", Item::Amount),
-        ],
+        fields: &[CURRENCY, SIDE, MONTHS, DAYS, PRINCIPAL, COUPON, PERIOD, COUNT, one("spread", Item::Amount)],
     },
 ];
 

@@ -50,10 +50,10 @@ fn a_place_that_cannot_be_written_leaves_nothing_behind() {
 fn a_damaged_book_is_listed_and_the_status_says_so() {
     let here = directory("damaged");
     let book = here.join("a.book");
-    fs::write(&book, [9, 1]).expect("a book");
+    fs::write(&book, [200, 1]).expect("a book");
     let shown = bookkit(&["show", book.to_str().unwrap()]);
-    assert_one_line(&shown, 1, &["a.book", "R 1 0", "kind is 9"]);
-    assert!(String::from_utf8_lossy(&shown.stdout).contains("\nraw 09 01  # place 0\n"));
+    assert_one_line(&shown, 1, &["a.book", "R 1 0", "kind is 200"]);
+    assert!(String::from_utf8_lossy(&shown.stdout).contains("\nraw c8 01  # place 0\n"));
     assert_one_line(&bookkit(&["show", "--input", book.to_str().unwrap()]), 1, &["R 16 0", "2 bytes"]);
 }
 
@@ -85,5 +85,5 @@ fn the_example_in_the_help_can_be_made() {
         std::str::from_utf8(&help).unwrap().lines().filter(|line| line.starts_with("  ")).collect();
     let input = bookkit::make(example.join("\n").as_bytes()).expect("good lines");
     let refusal = bookkit::show_input(&input).refusal.expect("the raw bytes at its end");
-    assert_eq!((refusal.number, refusal.place, example.len()), (1, input.len() - 8 - 2, 10));
+    assert_eq!((refusal.number, refusal.place, example.len()), (1, input.len() - 8 - 2, 11));
 }

@@ -49,7 +49,11 @@ fn number_2_body_cut_short() {
         assert_out(2, [record[..1].to_vec(), record[..2].to_vec(), record[..record.len() - 1].to_vec()]);
     }
     let lengths: Vec<usize> = one_of_each().iter().map(|record| record.len() - 1).collect();
-    assert_eq!(lengths, [9, 13, 13, 82, 155, 79, 26, 83, 20], "the hand that writes the records follows the paper's table");
+    assert_eq!(
+        lengths,
+        [9, 13, 13, 82, 155, 79, 26, 83, 20],
+        "the hand that writes the records follows the paper's table"
+    );
 }
 
 #[test]
