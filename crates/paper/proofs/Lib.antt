@@ -3,11 +3,12 @@ pub mod Cases
 pub mod Rules
 pub mod Bytes
 pub mod DecodeCases
--- ladder, behaviour, magnitudes, and what refusal 14 leaves
+-- ladder, behaviour, spread, magnitudes, and what refusal 14 leaves
 pub mod Buckets
 pub mod Midpoints
 pub mod Loan
 pub mod Deposits
+pub mod Spread
 pub mod Magnitudes
 pub mod Limits
 -- what is known of accepted fields, records and books

@@ -48,6 +48,8 @@ fn a_spread_falls_after_each_period_from_the_reset() {
     assert_eq!(flows(reset(0, 0), 12, 1), expected(&[(1, 1_010), (6, 5)]));
     assert_eq!(flows(reset(240, 0), 12, 30), expected(&[(18, 1_010), (19, 150)]), "up to month 600");
     assert_eq!(flows(floating(1, 2, 1, 30, 7, 0), 1, 2), expected(&[(3, -12), (4, -5)]));
+    let nil = net_flows(floating_spread(reset(9, 1), 3, 4, 0), 0);
+    assert_eq!(nil, net_flows(reset(9, 1), 0), "with a spread of nil it is kind 3");
 }
 
 #[test]
