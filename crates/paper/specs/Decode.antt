@@ -97,7 +97,7 @@ module _ (top : ℕ) where
     refuseIf (k below buckets) OutOfRange (suc (1 + 4 * k))
     accepted (curve currency z)
 
-  -- 9: as kind 3; then period (1), count (2), spread. The last month is counted from the reset
+  -- 9 (02, request 1): as kind 3; then period (1), count (2), spread. The last month is counted from the reset
   unfoldable pub decodeFloatingSpread : List ℕ → Checked Record
   decodeFloatingSpread body = do
     currency ← currencyAt top body 0

@@ -4,8 +4,8 @@ use mathlib.Core.List.{List, [], _∷_}
 use mathlib.Core.Path.{_≡_}
 use lib.IntN.{ℤ}
 use lib.ListN.{length}
-use Rattle.paper.specs.Refusals.{Checked, accepted, refused}
 use Rattle.paper.specs.declared.Fault.{Fault}
+use Rattle.paper.specs.Refusals.{Checked, accepted, refused}
 use Rattle.paper.specs.Records.{Record, Flows, flows, option, curve, single, coupons, floating, deposit, loan, termDeposit, floatingSpread, currencies}
 use Rattle.paper.specs.Fields.{currencyAt}
 use Rattle.curve.specs.Shocked.{curveOf}
@@ -85,7 +85,7 @@ unfoldable pub floatingRead : DecodedFloating → Checked Record
 floatingRead (ofFloating.Is s) = accepted (flows (s .currency) (floatingOf s))
 floatingRead (ofFloating.Refused f) = refused (f .cause) (f .place)
 
--- no fault of a record: it is never looked at
+-- of a record that was read there is no fault, and what stands for it is never looked at
 abbrev pub floatingFaultIn : DecodedFloating → Fault
 floatingFaultIn (ofFloating.Is s) = none
 floatingFaultIn (ofFloating.Refused f) = f
