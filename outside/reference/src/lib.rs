@@ -1,4 +1,4 @@
-//! An independent implementation of document 01, straightforward and slow, to compare the product with.
+//! An independent implementation of documents 01 and 02, straightforward and slow, to compare the product with.
 //! It shares no code and no table with the product: what comes from the series is worked out from the series.
 //!
 //! `Request::answer` is the product's one call; `Answer::fill` says what the rooms then hold; `irreport` is the
