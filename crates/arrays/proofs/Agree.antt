@@ -92,7 +92,7 @@ module _ (x y : SoFar) (agree : (c : ℕ) → 1 ≤ c → c ≤ currencies → A
   all-agree kind body known = by (currencyAt currencies body 0) refl
     where
       by : (m : Checked ℕ) → currencyAt currencies body 0 ≡ m → admitted currencies x kind body ≡ admitted currencies y kind body
-      by (accepted c) e = let b : Between 1 currencies c = known-of (currency-known body 0 currencies) c e in admitted-agrees c x y (agree c (b .from) (b .to)) body e kind
+      by (accepted c) e = let b : Between 1 currencies c = known-of (currency-known {bytes = 1} body 0 (omega arith) currencies) c e in admitted-agrees c x y (agree c (b .from) (b .to)) body e kind
       by (refused q place) e = refused-alike kind body q place known e
 
   pub record-agrees : (book : List ℕ) (at : ℕ) → recordAt currencies x book at ≡ recordAt currencies y book at

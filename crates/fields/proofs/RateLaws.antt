@@ -93,4 +93,4 @@ module _ (body : List ℕ) (o : ℕ) where
       let stop : goodRates body o ≡ buckets = none-first _ 0 buckets (λ j m n. u .1 j n) in
       let list : each (rateAt body) buckets o ≡ accepted (ratesFrom body o) = t .1 ∙ ap accepted (u .0) in
       let whole : rates ≡ ratesFrom body o = h ∙ rw stop (fill-all (ratesFrom body o) room rates-length long) in
-      record { list = list; holds = whole; ranged = rw whole (known-of (rates-known body o) (ratesFrom body o) list) }
+      record { list = list; holds = whole; ranged = rw whole (known-of (rates-known {bytes = o + 4 * buckets} body o (omega arith)) (ratesFrom body o) list) }

@@ -46,10 +46,14 @@ termDepositBody currency share amounts = currency ∷ in2 share ++ amounts
 abbrev pub optionBody : ℕ → ℕ → List ℕ → List ℕ
 optionBody currency side last = currency ∷ side ∷ replicate 20 0 ++ last
 
--- all rates alike
+-- so many rates alike
 unfoldable pub rates : ℕ → List ℕ → List ℕ
 rates zero rate = []
 rates (suc n) rate = rate ++ rates n rate
 
+abbrev pub ratesBody : ℕ → List ℕ → ℕ → ℕ → ℕ → List ℕ
+ratesBody currency all parallel short long = currency ∷ all ++ in2 parallel ++ in2 short ++ in2 long
+
+-- all rates alike
 abbrev pub curveBody : ℕ → List ℕ → ℕ → ℕ → ℕ → List ℕ
-curveBody currency rate parallel short long = currency ∷ rates 19 rate ++ in2 parallel ++ in2 short ++ in2 long
+curveBody currency rate = ratesBody currency (rates 19 rate)

@@ -19,7 +19,7 @@ use Rattle.paper.specs.Behaviour.{weighedCore, scheduledAt}
 use Rattle.paper.specs.TurnedDown.{badCurrency, badSide, badMonths, badDays, badPeriod, badCount, badAmount, badOption, badShare, badCategory, coreAboveCap, coreTooLong, interestAlone, secondCurve, badRate, badShock, badShocked, scheduleOver}
 use Rattle.paper.specs.Fields.{signed, field, each}
 use Rattle.paper.specs.Decode.{decodeSingle, decodeCoupons, decodeFloating, decodeDeposit, decodeLoan, decodeTermDeposit, decodeOption, decodeCurve, decodeFloatingSpread, decode}
-use Rattle.paper.proofs.Bytes.{in4, below4, only, pair, singleBody, couponsBody, floatingBody, floatingSpreadBody, depositBody, loanBody, termDepositBody, optionBody, rates, curveBody}
+use Rattle.paper.proofs.Bytes.{in4, below4, only, pair, singleBody, couponsBody, floatingBody, floatingSpreadBody, depositBody, loanBody, termDepositBody, optionBody, rates, ratesBody, curveBody}
 
 pub record Row : Type 0 where
   pub body : Checked Record
@@ -64,8 +64,11 @@ bodies =
     ∷ (freshly 4 (depositBody 2 3 1000 (only 2 501)) means refused CoreAboveCap 0)
     ∷ (freshly 5 (loanBody 8 10001 (only 9 1000000001) (only 9 0)) means refused BadShare 2)
     ∷ (freshly 5 (loanBody 8 10000 (only 9 1000000001) (only 9 0)) means refused TooLarge 36)
+    ∷ (freshly 5 (loanBody 8 10000 (only 19 1000000001) (only 1 1000000001)) means refused TooLarge 76)
+    ∷ (freshly 5 (loanBody 8 10000 (only 19 1) (only 1 1000000001)) means refused TooLarge 80)
     ∷ (freshly 5 (loanBody 8 1000 (only 9 1000) (only 9 100)) means accepted (flows 8 (loan 1000 (at 9 1000) (at 9 100))))
     ∷ (freshly 5 (loanBody 8 1000 (only 9 1000) (only 10 100)) means refused InterestAlone 116)
+    ∷ (freshly 5 (loanBody 8 1000 (only 9 1000) (pair 10 100 100)) means refused InterestAlone 116)
     ∷ (freshly 5 (loanBody 8 1000 (only 9 1000000000) (only 9 1)) means refused OverLimit 0)
     ∷ (freshly 6 (termDepositBody 8 6000 (only 6 1000)) means accepted (flows 8 (termDeposit 6000 (at 6 1000))))
     ∷ (freshly 6 (termDepositBody 8 10001 (only 6 1000)) means refused BadShare 2)
@@ -79,6 +82,8 @@ bodies =
     ∷ (freshly 8 (curveBody 8 (below4 50000) 1001 0 0) means refused OutOfRange 78)
     ∷ (freshly 8 (curveBody 8 (below4 50000) 0 0 1001) means refused OutOfRange 82)
     ∷ (freshly 8 (curveBody 8 (below4 50000) 1 0 0) means refused OutOfRange 2)
+    ∷ (freshly 8 (ratesBody 8 (rates 3 (in4 0) ++ below4 50000 ++ in4 300000 ++ rates 14 (in4 0)) 1 0 0) means refused OutOfRange 14)
+    ∷ (freshly 8 (ratesBody 8 (rates 4 (in4 0) ++ in4 300000 ++ below4 50000 ++ rates 13 (in4 0)) 1 0 0) means refused OutOfRange 18)
     ∷ (freshly 8 (curveBody 8 (in4 300000) 0 0 0) means accepted (curve 8 (record { rates = replicate 19 (pos 300000); shocks = record { parallel = 0; short = 0; long = 0 } })))
     ∷ (freshly 9 (floatingSpreadBody 2 1 588 30 300 7 12 1 5) means accepted (flows 2 (floatingSpread 1 (record { months = 588; days = 30 }) 300 7 12 1 5)))
     ∷ (freshly 9 (floatingSpreadBody 2 1 0 0 300 7 1 600 0) means accepted (flows 2 (floatingSpread 1 (record { months = 0; days = 0 }) 300 7 1 600 0)))

@@ -1,125 +1,131 @@
 -- The kinds, one by one: what is known of their records, and their rows in the table. A new kind is one of each, here.
-use Prim.Native.Nat.{ℕ, zero, suc, _≤_}
+use Prim.Native.Nat.{ℕ, zero, suc, _+_, _*_, _≤_, _<_}
 use mathlib.Core.Bool.{Bool, true, false}
 use mathlib.Core.List.{List, _∷_}
 use mathlib.Core.Logic.{⊎-elim}
 use mathlib.Core.Path.{_≡_, refl, sym, ap, _∙_}
 use native.Mathlib.Omega.{arith}
 use lib.ListN.{List·getD-eq-default}
-use borrow.Author.Tests.{eqb-true, eqb-false, ltb-false, ne-eqb}
-use Rattle.laws.specs.Tests.{if_then_else_, _is_}
+use borrow.Author.Tests.{eqb-true, eqb-false, ltb-true, ltb-false, ne-eqb}
+use Rattle.laws.specs.Tests.{if_then_else_, _is_, _below_}
 use Rattle.laws.proofs.Tests.{lt-or-ge}
 use Rattle.paper.specs.declared.Refusal.the-variants.{UnknownKind}
 use Rattle.paper.specs.Refusals.{numberOf, Checked, refused}
+use Rattle.paper.specs.Ladder.{buckets}
 use Rattle.paper.specs.Records.{Record, option, curve, kinds, bodyLength, currencyOf, isCurve, curveKind}
 use Rattle.paper.specs.Flow.{flow, adds, gives}
 use Rattle.paper.specs.TurnedDown.{unknownKind, interestAlone, secondCurve, scheduleOver}
 use Rattle.paper.specs.Decode.{decodeSingle, decodeCoupons, decodeFloating, decodeDeposit, decodeLoan, decodeTermDeposit, decodeOption, decodeCurve, decodeFloatingSpread, decode}
 use Rattle.paper.specs.Book.{touchesNothing}
 use Rattle.paper.specs.Sound.{SoundFlows, Sound}
-use Rattle.paper.proofs.Checks.{known, chain, tested, each-known}
+use Rattle.paper.specs.Earlier.{ofField}
+use Rattle.paper.proofs.Checks.{in-field, in-whole, known, chain, tested, tested-there, each-known}
 use Rattle.paper.proofs.Ranges.{side-known, months-known, days-known, period-known, count-known, amount-known, option-known, share-known, category-known, shock-known, amounts-known, rates-known, none-bad, shocked-ranged}
 use Rattle.paper.proofs.KindLaws.{FlowsOnly, AddOnOnly, CurveOnly, Kind, begins, flows-read, FirstField, of-kind, no-kind}
 
+-- a bucket's field, where a body has room for a field of each bucket
+four-each : (bytes o k : ℕ) → (k below buckets) ≡ true → o + 4 * buckets ≤ bytes → o + 4 * k < bytes
+four-each bytes o k t l = omega (arith, ltb-true k buckets t)
+
 module _ (top : ℕ) (curved : ℕ → Bool) (body : List ℕ) where
-  pub single-kind : Kind top curved FlowsOnly body (decodeSingle top body)
+  pub single-kind : Kind top curved FlowsOnly 9 body (decodeSingle top body)
   unfolding decodeSingle SoundFlows
   single-kind =
-      begins top body (λ c hc.
-      chain (side-known body 1) (λ s hs.
-      chain (months-known body 2) (λ m hm.
-      chain (days-known body 4) (λ d hd.
-      chain (amount-known body 5) (λ a ha.
+      begins top body (omega arith) (λ c hc.
+      chain (side-known body 1 (omega arith)) (λ s hs.
+      chain (months-known body 2 (omega arith)) (λ m hm.
+      chain (days-known body 4 (omega arith)) (λ d hd.
+      chain (amount-known body 5 (omega arith)) (λ a ha.
       flows-read hc (hs, (hm, hd), ha))))))
 
-  pub coupons-kind : Kind top curved FlowsOnly body (decodeCoupons top body)
+  pub coupons-kind : Kind top curved FlowsOnly 13 body (decodeCoupons top body)
   unfolding decodeCoupons SoundFlows
   coupons-kind =
-      begins top body (λ c hc.
-      chain (side-known body 1) (λ s hs.
-      chain (period-known body 2) (λ p hp.
-      chain (count-known body 3 0 p) (λ n hn.
-      chain (amount-known body 5) (λ a ha.
-      chain (amount-known body 9) (λ b hb.
+      begins top body (omega arith) (λ c hc.
+      chain (side-known body 1 (omega arith)) (λ s hs.
+      chain (period-known body 2 (omega arith)) (λ p hp.
+      chain (count-known body 3 (omega arith) 0 p) (λ n hn.
+      chain (amount-known body 5 (omega arith)) (λ a ha.
+      chain (amount-known body 9 (omega arith)) (λ b hb.
       flows-read hc (hs, hp, hn, ha, hb)))))))
 
-  pub floating-kind : Kind top curved FlowsOnly body (decodeFloating top body)
+  pub floating-kind : Kind top curved FlowsOnly 13 body (decodeFloating top body)
   unfolding decodeFloating SoundFlows
   floating-kind =
-      begins top body (λ c hc.
-      chain (side-known body 1) (λ s hs.
-      chain (months-known body 2) (λ m hm.
-      chain (days-known body 4) (λ d hd.
-      chain (amount-known body 5) (λ a ha.
-      chain (amount-known body 9) (λ b hb.
+      begins top body (omega arith) (λ c hc.
+      chain (side-known body 1 (omega arith)) (λ s hs.
+      chain (months-known body 2 (omega arith)) (λ m hm.
+      chain (days-known body 4 (omega arith)) (λ d hd.
+      chain (amount-known body 5 (omega arith)) (λ a ha.
+      chain (amount-known body 9 (omega arith)) (λ b hb.
       flows-read hc (hs, (hm, hd), ha, hb)))))))
 
-  pub deposit-kind : Kind top curved FlowsOnly body (decodeDeposit top body)
-  unfolding decodeDeposit SoundFlows touchesNothing numberOf
+  pub deposit-kind : Kind top curved FlowsOnly 82 body (decodeDeposit top body)
+  unfolding decodeDeposit SoundFlows touchesNothing numberOf ofField
   deposit-kind =
-      begins top body (λ c hc.
-      chain (category-known body 1) (λ g hg.
-      chain (amount-known body 2) (λ a ha.
-      chain (amounts-known body 6) (λ core hs.
-      tested _ _ _ _ refl (λ e.
-      tested _ _ _ _ refl (λ f.
+      begins top body (omega arith) (λ c hc.
+      chain (category-known body 1 (omega arith)) (λ g hg.
+      chain (amount-known body 2 (omega arith)) (λ a ha.
+      chain (amounts-known body 6 (omega arith)) (λ core hs.
+      tested _ _ _ _ (in-whole refl refl) (λ e.
+      tested _ _ _ _ (in-whole refl refl) (λ f.
       flows-read hc (hg, ha, hs, e, f)))))))
 
-  pub loan-kind : Kind top curved FlowsOnly body (decodeLoan top body)
-  unfolding decodeLoan SoundFlows scheduleOver touchesNothing numberOf
+  pub loan-kind : Kind top curved FlowsOnly 155 body (decodeLoan top body)
+  unfolding decodeLoan SoundFlows scheduleOver touchesNothing numberOf ofField
   loan-kind =
-      begins top body (λ c hc.
-      chain (share-known body 1) (λ s hs.
-      chain (amounts-known body 3) (λ ps hp.
-      chain (amounts-known body 79) (λ xs hx.
-      tested _ _ _ _ refl (λ e.
-      tested _ _ _ _ refl (λ f.
+      begins top body (omega arith) (λ c hc.
+      chain (share-known body 1 (omega arith)) (λ s hs.
+      chain (amounts-known body 3 (omega arith)) (λ ps hp.
+      chain (amounts-known body 79 (omega arith)) (λ xs hx.
+      tested-there _ _ _ _ (λ t. in-field refl refl (four-each _ 79 _ t (omega arith))) (λ e.
+      tested _ _ _ _ (in-whole refl refl) (λ f.
       flows-read hc (hs, hp, hx, none-bad (interestAlone ps xs) e, ltb-false _ _ f)))))))
 
-  pub term-deposit-kind : Kind top curved FlowsOnly body (decodeTermDeposit top body)
+  pub term-deposit-kind : Kind top curved FlowsOnly 79 body (decodeTermDeposit top body)
   unfolding decodeTermDeposit SoundFlows
   term-deposit-kind =
-      begins top body (λ c hc.
-      chain (share-known body 1) (λ s hs.
-      chain (amounts-known body 3) (λ xs hx.
+      begins top body (omega arith) (λ c hc.
+      chain (share-known body 1 (omega arith)) (λ s hs.
+      chain (amounts-known body 3 (omega arith)) (λ xs hx.
       flows-read hc (hs, hx))))
 
-  pub option-kind : Kind top curved AddOnOnly body (decodeOption top body)
+  pub option-kind : Kind top curved AddOnOnly 26 body (decodeOption top body)
   unfolding decodeOption Sound currencyOf isCurve flow gives
   option-kind =
-      begins top body (λ c hc.
-      chain (side-known body 1) (λ s hs.
-      chain (each-known (option-known body) 6 2) (λ vs hv.
+      begins top body (omega arith) (λ c hc.
+      chain (side-known body 1 (omega arith)) (λ s hs.
+      chain (each-known 6 2 (λ o l. option-known body o (omega arith))) (λ vs hv.
       known {a = option c s vs} (record { own = refl; only = record { position = refl; no-flow = λ i k. refl; no-rate = λ i k. refl }; sound = (hc, hs, hv) }))))
 
-  pub curve-kind : Kind top curved CurveOnly body (decodeCurve top curved body)
-  unfolding decodeCurve Sound secondCurve currencyOf isCurve flow adds touchesNothing numberOf
+  pub curve-kind : Kind top curved CurveOnly 83 body (decodeCurve top curved body)
+  unfolding decodeCurve Sound secondCurve currencyOf isCurve flow adds touchesNothing numberOf ofField
   curve-kind =
-      begins top body (λ c hc.
-      tested _ _ _ _ refl (λ e.
-      chain (rates-known body 1) (λ rs hr.
-      chain (shock-known body 77) (λ p hp.
-      chain (shock-known body 79) (λ h hh.
-      chain (shock-known body 81) (λ g hg.
-      tested _ _ _ _ refl (λ f.
+      begins top body (omega arith) (λ c hc.
+      tested _ _ _ _ (in-whole refl refl) (λ e.
+      chain (rates-known body 1 (omega arith)) (λ rs hr.
+      chain (shock-known body 77 (omega arith)) (λ p hp.
+      chain (shock-known body 79 (omega arith)) (λ h hh.
+      chain (shock-known body 81 (omega arith)) (λ g hg.
+      tested-there _ _ _ _ (λ t. in-field refl refl (four-each _ 1 _ t (omega arith))) (λ f.
       known {a = curve c _} (record {
         own = refl;
         only = record { curved = refl; no-flow = λ i k. refl; no-add-on = λ i. refl };
         sound = (hc, record { fresh = e; base = hr; parallel = hp; short = hh; long = hg; shocked = shocked-ranged _ hr (none-bad _ f) });
       }))))))))
 
-  pub floating-spread-kind : Kind top curved FlowsOnly body (decodeFloatingSpread top body)
+  pub floating-spread-kind : Kind top curved FlowsOnly 20 body (decodeFloatingSpread top body)
   unfolding decodeFloatingSpread SoundFlows
   floating-spread-kind =
-      begins top body (λ c hc.
-      chain (side-known body 1) (λ s hs.
-      chain (months-known body 2) (λ m hm.
-      chain (days-known body 4) (λ d hd.
-      chain (amount-known body 5) (λ a ha.
-      chain (amount-known body 9) (λ b hb.
-      chain (period-known body 13) (λ p hp.
-      chain (count-known body 14 m p) (λ n hn.
-      chain (amount-known body 16) (λ x hx.
+      begins top body (omega arith) (λ c hc.
+      chain (side-known body 1 (omega arith)) (λ s hs.
+      chain (months-known body 2 (omega arith)) (λ m hm.
+      chain (days-known body 4 (omega arith)) (λ d hd.
+      chain (amount-known body 5 (omega arith)) (λ a ha.
+      chain (amount-known body 9 (omega arith)) (λ b hb.
+      chain (period-known body 13 (omega arith)) (λ p hp.
+      chain (count-known body 14 (omega arith) m p) (λ n hn.
+      chain (amount-known body 16 (omega arith)) (λ x hx.
       flows-read hc (hs, (hm, hd), ha, hb, hp, hn, hx))))))))))
 
 -- ---- the table, row by row: the length of a body and its decoder; and none of them
@@ -223,15 +229,15 @@ module _ (top : ℕ) (curved : ℕ → Bool) (kind : ℕ) (body : List ℕ) wher
   no-length e = rw e
 
   pub first-field : FirstField top curved kind body (decode top curved kind body)
-  unfolding decode curveKind touchesNothing numberOf
+  unfolding decode bodyLength kinds curveKind touchesNothing numberOf ofField
   first-field =
-      at 1 (λ e. of-kind e (λ r only. only .position) (single-kind top curved body)) (λ n1.
-      at 2 (λ e. of-kind e (λ r only. only .position) (coupons-kind top curved body)) (λ n2.
-      at 3 (λ e. of-kind e (λ r only. only .position) (floating-kind top curved body)) (λ n3.
-      at 4 (λ e. of-kind e (λ r only. only .position) (deposit-kind top curved body)) (λ n4.
-      at 5 (λ e. of-kind e (λ r only. only .position) (loan-kind top curved body)) (λ n5.
-      at 6 (λ e. of-kind e (λ r only. only .position) (term-deposit-kind top curved body)) (λ n6.
-      at 7 (λ e. of-kind e (λ r only. only .position) (option-kind top curved body)) (λ n7.
-      at 8 (λ e. of-kind e (λ r only. only .curved) (curve-kind top curved body)) (λ n8.
-      at 9 (λ e. of-kind e (λ r only. only .position) (floating-spread-kind top curved body)) (λ n9.
-      no-kind refl (no-length (none-such kind (((((((((tt, n1), n2), n3), n4), n5), n6), n7), n8), n9))))))))))))
+      at 1 (λ e. of-kind e refl (λ r only. only .position) (single-kind top curved body)) (λ n1.
+      at 2 (λ e. of-kind e refl (λ r only. only .position) (coupons-kind top curved body)) (λ n2.
+      at 3 (λ e. of-kind e refl (λ r only. only .position) (floating-kind top curved body)) (λ n3.
+      at 4 (λ e. of-kind e refl (λ r only. only .position) (deposit-kind top curved body)) (λ n4.
+      at 5 (λ e. of-kind e refl (λ r only. only .position) (loan-kind top curved body)) (λ n5.
+      at 6 (λ e. of-kind e refl (λ r only. only .position) (term-deposit-kind top curved body)) (λ n6.
+      at 7 (λ e. of-kind e refl (λ r only. only .position) (option-kind top curved body)) (λ n7.
+      at 8 (λ e. of-kind e refl (λ r only. only .curved) (curve-kind top curved body)) (λ n8.
+      at 9 (λ e. of-kind e refl (λ r only. only .position) (floating-spread-kind top curved body)) (λ n9.
+      no-kind (in-whole refl refl) (no-length (none-such kind (((((((((tt, n1), n2), n3), n4), n5), n6), n7), n8), n9))))))))))))

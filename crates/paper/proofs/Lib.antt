@@ -19,6 +19,7 @@ pub mod KindLaws
 pub mod KindTable
 pub mod Rate
 pub mod Walk
+pub mod Earlier
 pub mod OneCurve
 -- demand 3: the series, the factor, a change, the measure, the verdict, each against the exact one
 pub mod Terms

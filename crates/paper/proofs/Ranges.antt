@@ -1,4 +1,4 @@
--- What a field lies in once it is read, and what the rules after the fields leave; a refusal on the way is one of a record.
+-- What a field lies in once it is read, and what the rules after the fields leave; a refusal on the way is one of a record, at the field's place.
 use Prim.Native.Nat.{ℕ, zero, suc, _+_, _*_, _≤_, _<_}
 use mathlib.Core.Bool.{Bool, true, false, not, _&&_, _||_}
 use mathlib.Core.List.{List}
@@ -24,7 +24,8 @@ use Rattle.paper.specs.TurnedDown.{badCurrency, badSide, badMonths, badD
 use Rattle.paper.specs.Fields.{currencyAt, sideAt, monthsAt, daysAt, periodAt, countAt, amountAt, optionAt, shareAt, categoryAt, rateAt, shockAt, each}
 use Rattle.paper.specs.Book.{touchesNothing}
 use Rattle.paper.specs.Sound.{Between, Counted, Small, Ranged, Listed, Amounts}
-use Rattle.paper.proofs.Checks.{Checks, Clears, field-known, each-known}
+use Rattle.paper.specs.Earlier.{ofField}
+use Rattle.paper.proofs.Checks.{Checks, Inside, in-field, field-known, each-known}
 
 -- ---- by the circumstance
 
@@ -62,63 +63,63 @@ rate-range z e =
     let both = or-false (ltZ z (negℤ (pos 50000))) (ltZ (pos 300000) z) e in
     record { low = omega (arith, side z, ltZ-false z (negℤ (pos 50000)) (both .0)); high = omega (arith, side z, ltZ-false (pos 300000) z (both .1)) }
 
--- ---- the fields
+-- ---- the fields, in a body of so many bytes
 
-module _ (body : List ℕ) (o : ℕ) where
-  pub currency-known : (top : ℕ) → Checks Clears (Between 1 top) (currencyAt top body o)
-  unfolding badCurrency touchesNothing numberOf
-  currency-known top = field-known (between-tested 1 top) _ _ _ refl
+module _ {bytes : ℕ} (body : List ℕ) (o : ℕ) (l : o < bytes) where
+  pub currency-known : (top : ℕ) → Checks (Inside bytes) (Between 1 top) (currencyAt top body o)
+  unfolding badCurrency touchesNothing numberOf ofField
+  currency-known top = field-known (between-tested 1 top) _ _ _ (in-field refl refl l)
 
-  pub side-known : Checks Clears (Between 1 2) (sideAt body o)
-  unfolding badSide touchesNothing numberOf
-  side-known = field-known (between-tested 1 2) _ _ _ refl
+  pub side-known : Checks (Inside bytes) (Between 1 2) (sideAt body o)
+  unfolding badSide touchesNothing numberOf ofField
+  side-known = field-known (between-tested 1 2) _ _ _ (in-field refl refl l)
 
-  pub months-known : Checks Clears (Between 0 600) (monthsAt body o)
-  unfolding badMonths touchesNothing numberOf
-  months-known = field-known (up-to-tested 600) _ _ _ refl
+  pub months-known : Checks (Inside bytes) (Between 0 600) (monthsAt body o)
+  unfolding badMonths touchesNothing numberOf ofField
+  months-known = field-known (up-to-tested 600) _ _ _ (in-field refl refl l)
 
-  pub days-known : Checks Clears (Between 0 30) (daysAt body o)
-  unfolding badDays touchesNothing numberOf
-  days-known = field-known (up-to-tested 30) _ _ _ refl
+  pub days-known : Checks (Inside bytes) (Between 0 30) (daysAt body o)
+  unfolding badDays touchesNothing numberOf ofField
+  days-known = field-known (up-to-tested 30) _ _ _ (in-field refl refl l)
 
-  pub period-known : Checks Clears (λ p. badPeriod p ≡ false) (periodAt body o)
-  unfolding touchesNothing numberOf
-  period-known = field-known (λ p e. e) _ _ _ refl
+  pub period-known : Checks (Inside bytes) (λ p. badPeriod p ≡ false) (periodAt body o)
+  unfolding touchesNothing numberOf ofField
+  period-known = field-known (λ p e. e) _ _ _ (in-field refl refl l)
 
-  pub count-known : (start period : ℕ) → Checks Clears (Counted start period) (countAt start period body o)
-  unfolding touchesNothing numberOf
-  count-known start period = field-known (count-range start period) _ _ _ refl
+  pub count-known : (start period : ℕ) → Checks (Inside bytes) (Counted start period) (countAt start period body o)
+  unfolding touchesNothing numberOf ofField
+  count-known start period = field-known (count-range start period) _ _ _ (in-field refl refl l)
 
-  pub amount-known : Checks Clears (Between 0 billion) (amountAt body o)
-  unfolding badAmount touchesNothing numberOf
-  amount-known = field-known (up-to-tested billion) _ _ _ refl
+  pub amount-known : Checks (Inside bytes) (Between 0 billion) (amountAt body o)
+  unfolding badAmount touchesNothing numberOf ofField
+  amount-known = field-known (up-to-tested billion) _ _ _ (in-field refl refl l)
 
-  pub option-known : Checks Clears Small (optionAt body o)
-  unfolding badOption touchesNothing numberOf
-  option-known = field-known (λ z e. record { small = ltb-false _ _ e }) _ _ _ refl
+  pub option-known : Checks (Inside bytes) Small (optionAt body o)
+  unfolding badOption touchesNothing numberOf ofField
+  option-known = field-known (λ z e. record { small = ltb-false _ _ e }) _ _ _ (in-field refl refl l)
 
-  pub share-known : Checks Clears (Between 0 10000) (shareAt body o)
-  unfolding badShare touchesNothing numberOf
-  share-known = field-known (up-to-tested 10000) _ _ _ refl
+  pub share-known : Checks (Inside bytes) (Between 0 10000) (shareAt body o)
+  unfolding badShare touchesNothing numberOf ofField
+  share-known = field-known (up-to-tested 10000) _ _ _ (in-field refl refl l)
 
-  pub category-known : Checks Clears (Between 1 3) (categoryAt body o)
-  unfolding badCategory touchesNothing numberOf
-  category-known = field-known (between-tested 1 3) _ _ _ refl
+  pub category-known : Checks (Inside bytes) (Between 1 3) (categoryAt body o)
+  unfolding badCategory touchesNothing numberOf ofField
+  category-known = field-known (between-tested 1 3) _ _ _ (in-field refl refl l)
 
-  pub rate-known : Checks Clears Ranged (rateAt body o)
-  unfolding touchesNothing numberOf
-  rate-known = field-known rate-range _ _ _ refl
+  pub rate-known : Checks (Inside bytes) Ranged (rateAt body o)
+  unfolding touchesNothing numberOf ofField
+  rate-known = field-known rate-range _ _ _ (in-field refl refl l)
 
-  pub shock-known : Checks Clears (Between 0 1000) (shockAt body o)
-  unfolding touchesNothing numberOf
-  shock-known = field-known shock-range _ _ _ refl
+  pub shock-known : Checks (Inside bytes) (Between 0 1000) (shockAt body o)
+  unfolding touchesNothing numberOf ofField
+  shock-known = field-known shock-range _ _ _ (in-field refl refl l)
 
 -- nineteen amounts, and nineteen rates
-pub amounts-known : (body : List ℕ) (o : ℕ) → Checks Clears Amounts (each (amountAt body) buckets o)
-amounts-known body o = each-known (amount-known body) buckets o
+pub amounts-known : {bytes : ℕ} (body : List ℕ) (o : ℕ) → o + 4 * buckets ≤ bytes → Checks (Inside bytes) Amounts (each (amountAt body) buckets o)
+amounts-known body o l = each-known buckets o (λ p m. amount-known body p (omega arith))
 
-pub rates-known : (body : List ℕ) (o : ℕ) → Checks Clears (Listed Ranged buckets) (each (rateAt body) buckets o)
-rates-known body o = each-known (rate-known body) buckets o
+pub rates-known : {bytes : ℕ} (body : List ℕ) (o : ℕ) → o + 4 * buckets ≤ bytes → Checks (Inside bytes) (Listed Ranged buckets) (each (rateAt body) buckets o)
+rates-known body o l = each-known buckets o (λ p m. rate-known body p (omega arith))
 
 -- ---- the rules after the fields
 

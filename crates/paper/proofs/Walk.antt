@@ -11,12 +11,13 @@ use Rattle.laws.proofs.Totals.{some-more}
 use Rattle.paper.specs.Ladder.{buckets}
 use Rattle.paper.specs.Refusals.{numberOf, Checked, accepted, refused, _>>=_}
 use Rattle.paper.specs.Records.{Record, currencyOf, isCurve, bodyLength}
-use Rattle.paper.specs.Ledger.{rateOf, totals, soFar, curved}
+use Rattle.paper.specs.Ledger.{rateOf, totals, SoFar, soFar, curved}
 use Rattle.paper.specs.TurnedDown.{overLimit}
 use Rattle.paper.specs.Fields.{byte}
-use Rattle.paper.specs.Book.{admitted, recordAt, nextAt, walkFrom, walk, covered, outcome, touchesNothing}
+use Rattle.paper.specs.Book.{admitted, recordFrom, recordAt, nextAt, walkFrom, walk, covered, outcome, touchesNothing}
 use Rattle.paper.specs.Sound.{Ranged, Sound}
-use Rattle.paper.proofs.Checks.{Checks, Known, Clears, known, known-of, weaker, forget, chain, tested, unless-known, either, placed-known}
+use Rattle.paper.specs.Earlier.{ofField}
+use Rattle.paper.proofs.Checks.{Checks, Known, Clears, Inside, in-whole, known, known-of, weaker, forget, chain, tested, unless-known, either, placed-known}
 use Rattle.paper.proofs.KindTable.{first-field}
 use Rattle.paper.proofs.Limits.{Limited, limited-none, limited-more}
 use Rattle.paper.proofs.Rate.{rate-more, nil-ranged, own-ranged}
@@ -76,14 +77,23 @@ module _ (top : ℕ) where
 
   -- ---- the walk
 
+  -- a body that was let in, or is refused within its record
+  pub admitted-inside : (before : SoFar) (kind : ℕ) (body : List ℕ)
+      → Checks (Inside (bodyLength kind)) (λ r. Sound top (before .curved) r × (overLimit before r ≡ false)) (admitted top before kind body)
+  unfolding admitted touchesNothing numberOf ofField
+  admitted-inside before kind body = chain (first-field top (before .curved) kind body .sound) (λ r s. unless-known _ _ _ _ (in-whole refl refl) (λ t. (s, t)))
+
+  pub record-inside : (kept : List Record) (book : List ℕ) (at : ℕ) → Checks (Inside (bodyLength (byte book at))) (Passed top kept) (recordFrom top (soFar kept) book at)
+  unfolding touchesNothing numberOf ofField
+  record-inside kept book at =
+      tested _ _ _ _ (in-whole refl refl) (λ e.
+      tested _ _ _ _ (in-whole refl refl) (λ f.
+      weaker (λ r p. record { sound = p .0; room = p .1 })
+      (admitted-inside (soFar kept) (byte book at) (take (bodyLength (byte book at)) (drop (suc at) book)))))
+
   pub record-passed : (kept : List Record) (book : List ℕ) (at : ℕ) → Checks Clears (Passed top kept) (recordAt top (soFar kept) book at)
-  unfolding recordAt admitted touchesNothing numberOf
-  record-passed kept book at =
-      placed-known at
-      (tested _ _ _ _ refl (λ e.
-      tested _ _ _ _ refl (λ f.
-      chain (first-field top (curved kept) (byte book at) (take (bodyLength (byte book at)) (drop (suc at) book)) .sound) (λ r s.
-      unless-known _ _ _ _ refl (λ t. record { sound = s; room = t })))))
+  unfolding recordAt
+  record-passed kept book at = placed-known at (λ q o i. i .clears) (record-inside kept book at)
 
   walk-each : (fuel : ℕ) (book : List ℕ) (at : ℕ) (kept : List Record) → Each [] kept → Checks Clears (Each []) (walkFrom top fuel book at kept)
   unfolding walkFrom

@@ -15,10 +15,10 @@ use Rattle.paper.specs.Fields.{byte}
 use Rattle.paper.specs.Decode.{decode}
 use Rattle.paper.specs.Verdict.{reportOf}
 
--- the place is the record's first byte, whichever field is at fault
+-- the place of a refusal, from that of the record and where in the record the field at fault begins; 0 where that is the record as a whole (02, request 2)
 unfoldable pub placed : {A : Type 0} → ℕ → Checked A → Checked A
 placed at (accepted a) = accepted a
-placed at (refused r o) = refused r at
+placed at (refused r o) = refused r (at + o)
 
 -- the place after the record at a place
 unfoldable pub nextAt : List ℕ → ℕ → ℕ
@@ -32,13 +32,16 @@ module _ (top : ℕ) where
     unless (overLimit before r) OverLimit 0 r
 
   -- in a record: 1, 2, then its body
-  unfoldable pub recordAt : SoFar → List ℕ → ℕ → Checked Record
-  recordAt before book at =
+  abbrev pub recordFrom : SoFar → List ℕ → ℕ → Checked Record
+  recordFrom before book at =
       let kind = byte book at in
-      placed at (do
+      do
         refuseIf (unknownKind kind) UnknownKind 0
         refuseIf (cutShort kind at (length book)) CutShort 0
-        admitted before kind (take (bodyLength kind) (drop (suc at) book)))
+        admitted before kind (take (bodyLength kind) (drop (suc at) book))
+
+  unfoldable pub recordAt : SoFar → List ℕ → ℕ → Checked Record
+  recordAt before book at = placed at (recordFrom before book at)
 
   -- from a place to the end, after the records kept so far; the fuel is no less than the bytes left
   unfoldable pub walkFrom : ℕ → List ℕ → ℕ → List Record → Checked (List Record)

@@ -27,5 +27,6 @@ pub mod TurnedDown
 pub mod Book
 -- The report program
 pub mod Program
--- no part of 01: what is known of an accepted record
+-- no part of 01: what is known of an accepted record, and how places were told before request 2 of 02
 pub mod Sound
+pub mod Earlier

@@ -18,7 +18,7 @@ use Rattle.paper.specs.Records.{Record, Flows, flows, currencies}
 use Rattle.paper.specs.Flow.{scenarios, shocked, sided, due, flowOf, flow, magnitude}
 use Rattle.paper.specs.Ledger.{sectionSize}
 use Rattle.paper.specs.Sound.{SoundFlows, Sound}
-use Rattle.paper.proofs.Checks.{Checks, Clears, known-of}
+use Rattle.paper.proofs.Checks.{Checks, Inside, known-of}
 use Rattle.paper.proofs.Magnitudes.{size-sided}
 use Rattle.arrays.specs.Slots.{plus, plusℤ, withFlows, withSizes, withAddOns, withOptionSizes, optionMagnitude, roomFor, onlyIf}
 use Rattle.posting.specs.declared.Taken.{Taken}
@@ -95,7 +95,7 @@ steady-taken c f side amounts size whole are parts accepts =
     entered-taken _ accepts _ side _ parts (λ j l. are (j / buckets) (j % buckets)) (λ i l. sym (size-sided c i f side amounts (are i) ∙ whole))
 
 -- what a decoded record with flows is known to be
-pub flows-sound : (curved : ℕ → Bool) {c : ℕ} {f : Flows} {m : Checked Record} → Checks Clears (Sound currencies curved) m → m ≡ accepted (flows c f) → SoundFlows f
+pub flows-sound : (curved : ℕ → Bool) {bytes c : ℕ} {f : Flows} {m : Checked Record} → Checks (Inside bytes) (Sound currencies curved) m → m ≡ accepted (flows c f) → SoundFlows f
 unfolding Sound
 flows-sound curved h e = known-of h _ e .1
 

@@ -1,5 +1,5 @@
 -- What a turn of the walk answers and leaves, by what was read at its place. A refused record changes nothing.
-use Prim.Native.Nat.{ℕ}
+use Prim.Native.Nat.{ℕ, _+_, _<_}
 use mathlib.Core.Bool.{Bool, true, false}
 use mathlib.Core.List.{List}
 use mathlib.Core.Path.{_≡_}
@@ -18,9 +18,13 @@ use Rattle.turn.specs.declared.Walked.{Walked}
 use Rattle.turn.specs.declared.Walked.the-variants.{All, Refused}
 use Rattle.turn.specs.declared.Step.{Step}
 
+-- a place that 64 bits hold, as every place of a book is
+abbrev pub Addressed : ℕ → Type 0
+Addressed place = place < 18_446_744_073_709_551_616
+
 -- where a fault is told: the paper's `placed`
 abbrev pub faultAt : ℕ → Fault → Fault
-faultAt at f = record { cause = f .cause; place = at }
+faultAt at f = record { cause = f .cause; place = at + f .place }
 
 abbrev pub masksAs : (used curved : ℕ) → Masks
 masksAs used curved = record { used = used; curved = curved }

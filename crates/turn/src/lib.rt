@@ -1,13 +1,14 @@
 // One turn of the walk. Every kind's body begins with its currency: it is read once, before the kind is looked at, and that currency's parts of the arrays are lent on.
 ghost use mathlib.Core.Bool.{false};
 ghost use mathlib.Core.Path.{_≡_};
+ghost use Prim.Native.Nat.{_+_};
 ghost use lib.ListN.{length};
 ghost use Rattle.paper.specs.Records.{currencies, bodyLength};
 ghost use Rattle.paper.specs.TurnedDown.{unknownKind};
 ghost use Rattle.arrays.specs.Arrays.{Holding};
 ghost use Rattle.arrays.specs.Lent.{lent, before, after};
 ghost use Rattle.reader.specs.Reader.{standsAt};
-ghost use Rattle.turn.specs.Step.{StepsOver, Turns, faultAt, masksAs, onTo, stopsWith};
+ghost use Rattle.turn.specs.Step.{Addressed, StepsOver, Turns, faultAt, masksAs, onTo, stopsWith};
 use arrays::masks::Masks;
 use arrays::masks::marked;
 use fields::Field;
@@ -58,12 +59,14 @@ fn stopped(answer: Walked) -> Step
     }
 }
 
-// The place is the record's first byte, whichever field is at fault.
+// A fault of a record is told where the record begins and so many bytes on (02, request 2).
 fn placed(fault: Fault, at: usize) -> Fault
+    requires { ⌜ Addressed (at + fault .place) ⌝ }
     ensures { λ r. ⌜ r ≡ faultAt at fault ⌝ }
 {
+    let place = at + fault.place;
     let cause = fault.cause;
-    Fault { cause, place: at }
+    Fault { cause, place }
 }
 
 // A whole body of a known kind. A curve and a position go on apart, so that no record pays for choosing its mask.
@@ -79,7 +82,7 @@ fn take_record(
     sizes: &mut [u64],
     options: &mut [u64],
 ) -> Step
-    requires { ⌜ (length (now body) ≡ bodyLength kind) × (unknownKind kind ≡ false) × Holding masks (lent ledger rates addons sizes options) ⌝ }
+    requires { ⌜ (length (now body) ≡ bodyLength kind) × (unknownKind kind ≡ false) × Addressed (at + length (now body)) × Holding masks (lent ledger rates addons sizes options) ⌝ }
     ensures { λ r. ⌜ StepsOver kind (now (body .entry)) at next masks (before ledger rates addons sizes options) r (after ledger rates addons sizes options) ⌝ }
 {
     let read = currency_at(body, 0);

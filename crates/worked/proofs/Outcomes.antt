@@ -1,4 +1,4 @@
--- Books and what comes of them: every number at least once, with its place; one table with a single claim.
+-- Books and what comes of them: every number at least once, with its place, worked out by hand from the layout; one table with a single claim.
 use Prim.Native.Nat.{ℕ}
 use mathlib.Core.Path.{_≡_, refl}
 use mathlib.Core.List.{List, [], _∷_, _++_, map}
@@ -66,19 +66,21 @@ books =
     ∷ ends (1 ∷ []) 2 0
     ∷ ends (asset 1 5 ++ (9 ∷ replicate 19 255)) 2 10
     ∷ ends (asset 1 5 ++ (5 ∷ replicate 154 255)) 2 10
-    ∷ ends (1 ∷ singleBody 9 1 12 0 5) 3 0
-    ∷ ends (asset 1 5 ++ (7 ∷ optionBody 1 3 (in4 0))) 4 10
-    ∷ ends (asset 1 5 ++ (2 ∷ couponsBody 1 1 6 101 1 1)) 5 10
-    ∷ ends (asset 1 5 ++ (9 ∷ floatingSpreadBody 1 1 600 0 1 1 1 1 1)) 5 10
-    ∷ ends (asset 1 5 ++ (3 ∷ floatingBody 1 1 12 0 1000000001 1)) 6 10
-    ∷ ends (asset 1 5 ++ (9 ∷ floatingSpreadBody 1 1 12 0 1 1 1 1 1000000001)) 6 10
-    ∷ ends (6 ∷ termDepositBody 1 10001 (only 6 1)) 7 0
-    ∷ ends (4 ∷ depositBody 1 4 1 (only 6 1)) 8 0
+    ∷ ends (1 ∷ singleBody 9 1 12 0 5) 3 1
+    ∷ ends (asset 1 5 ++ (7 ∷ optionBody 1 3 (in4 0))) 4 12
+    ∷ ends (asset 1 5 ++ (2 ∷ couponsBody 1 1 6 101 1 1)) 5 14
+    ∷ ends (asset 1 5 ++ (9 ∷ floatingSpreadBody 1 1 600 0 1 1 1 1 1)) 5 25
+    ∷ ends (asset 1 5 ++ (3 ∷ floatingBody 1 1 12 0 1000000001 1)) 6 16
+    ∷ ends (asset 1 5 ++ (9 ∷ floatingSpreadBody 1 1 12 0 1 1 1 1 1000000001)) 6 27
+    ∷ ends (6 ∷ termDepositBody 1 10001 (only 6 1)) 7 2
+    ∷ ends (4 ∷ depositBody 1 4 1 (only 6 1)) 8 2
     ∷ ends (4 ∷ depositBody 1 1 1000 (only 2 901)) 9 0
     ∷ ends (4 ∷ depositBody 1 1 1000 (pair 11 449 451)) 10 0
-    ∷ ends (5 ∷ loanBody 1 1000 (only 9 1000) (only 10 100)) 11 0
+    ∷ ends (5 ∷ loanBody 1 1000 (only 9 1000) (only 10 100)) 11 116
+    ∷ ends (asset 1 5 ++ (5 ∷ loanBody 1 1000 (only 9 1000) (pair 10 100 100))) 11 126
     ∷ ends (curve 1 ++ asset 2 5 ++ curve 1) 12 94
-    ∷ ends (asset 1 5 ++ (8 ∷ curveBody 1 (below4 50000) 1 0 0)) 13 10
+    ∷ ends (asset 1 5 ++ (8 ∷ curveBody 1 (below4 50000) 1 0 0)) 13 12
+    ∷ ends (asset 1 5 ++ (8 ∷ curveBody 1 (in4 0) 0 1001 0)) 13 90
     ∷ ends (asset 1 1000000000 ++ debt 2 1 ++ debt 1 1) 14 20
     ∷ ends (asset 1 600000000 ++ debt 1 400000000 ++ asset 1 1) 14 20
     ∷ ends (7 ∷ optionBody 1 1 (in4 1000000000) ++ (7 ∷ optionBody 1 2 (in4 1))) 14 27

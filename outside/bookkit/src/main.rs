@@ -9,7 +9,7 @@ use std::io::Write;
 use std::process::ExitCode;
 
 const HELP: &str = "\
-bookkit show BOOK           list a book as text, with the place where irreport would turn it down
+bookkit show BOOK           list a book as text, and mark the record and the field at which irreport would turn it down
 bookkit show --input INPUT  the same for an input of irreport: capital in 8 bytes, then the book
 bookkit make TEXT [OUTPUT]  turn text into a book, or into an input of irreport if it names capital
 bookkit explain NUMBER      say what a refusal number means and what to look at

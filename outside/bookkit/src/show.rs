@@ -36,9 +36,12 @@ fn listing(capital: Option<u64>, book: &[u8], answer: Answer) -> Listing {
     text.extend(capital.map(|capital| format!("capital {capital}\n")));
     let (mut place, mut count) = (0, 0);
     while let Step::Whole(record) = step(book, place) {
-        text += &mark(matches!(found, Some((1..=14, at)) if at == place));
+        let next = place + record.length();
+        let at_fault = found.filter(|(number, at)| *number <= 14 && (place..next).contains(at));
+        text += &mark(at_fault.is_some());
         text += &format!("{}  # place {place}\n", record_line(&record));
-        place += record.length();
+        text.extend(at_fault.and_then(|(_, at)| pointer(&record, place, at)));
+        place = next;
         count += 1;
     }
     text += &mark(matches!(found, Some((1..=2, at)) if at == place));
@@ -61,9 +64,29 @@ fn marked(refusal: &Refusal) -> String {
 }
 
 fn record_line(record: &Record) -> String {
-    let kind = record.kind;
-    let item = |field: &Field| format!(" {}={}", field.name, values::written(kind, field, record.all(field.name)));
-    kind.name.to_string() + &kind.fields.iter().map(item).collect::<String>()
+    line_before(record, None)
+}
+
+/// The line of a record, up to a field if one is named.
+fn line_before(record: &Record, end: Option<&Field>) -> String {
+    let fields = record.kind.fields.iter().take_while(|field| end.is_none_or(|end| end.name != field.name));
+    fields.fold(record.kind.name.to_string(), |line, field| line + " " + &item(record, field))
+}
+
+fn item(record: &Record, field: &Field) -> String {
+    format!("{}={}", field.name, values::written(record.kind, field, record.all(field.name)))
+}
+
+/// A line that marks the field at fault in the line above it; none where the record as a whole is at fault.
+fn pointer(record: &Record, start: usize, place: usize) -> Option<String> {
+    let (field, index) = record.kind.begins_at(place - start)?;
+    let blanks = " ".repeat(line_before(record, Some(field)).len());
+    let marks = "^".repeat(item(record, field).len());
+    let which = match field.times {
+        1 => String::new(),
+        _ => format!(" of {} {}", field.counted_by(), index + 1),
+    };
+    Some(format!("#{blanks}{marks} {}{which}, place {place}\n", field.name))
 }
 
 /// Bytes that make no whole record of a known kind.

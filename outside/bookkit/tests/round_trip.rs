@@ -1,27 +1,72 @@
-//! `make` undoes `show`, on whole books and on damaged ones, and `show` marks the refusal at its place.
+//! `make` undoes `show`, on whole books and on damaged ones, and `show` marks the refusal at its record and its field.
 
 use bookkit::{make, show_book, show_input, Listing};
 use books::{aimed_case, case, Draw};
 use reference::{answer_input, split, LONGEST_BOOK};
 
-/// The line after the only mark, if there is a mark.
-fn line_after_mark(text: &str) -> Option<&str> {
+/// The two lines after the only mark, if there is a mark.
+fn lines_after_mark(text: &str) -> Option<[&str; 2]> {
     let mut lines = text.lines().skip_while(|line| !line.starts_with("# >>>"));
     lines.next()?;
-    let after = lines.next();
+    let after = [(); 2].map(|()| lines.next().unwrap_or("the end"));
     assert!(lines.all(|line| !line.starts_with("# >>>")), "a second mark in:\n{text}");
-    Some(after.unwrap_or("the end"))
+    Some(after)
+}
+
+/// The name of the field under which the marks stand, and the place said beside them.
+fn field_marked<'a>(record: &'a str, marks: &str) -> (&'a str, usize) {
+    let first = marks.find('^').unwrap_or_else(|| panic!("no marks: {marks}"));
+    let last = marks.rfind('^').expect("marks");
+    assert!(marks.starts_with('#') && marks[1..first].trim().is_empty(), "{marks}");
+    let (name, _) = record[first..=last].split_once('=').expect("a field");
+    assert!(
+        record[..first].ends_with(' ') && record[last + 1..].starts_with(' '),
+        "the marks are the field's: {marks}"
+    );
+    let (said, place) = marks[last + 1..].split_once(", place ").expect("a place");
+    assert!(said == format!(" {name}") || said.starts_with(&format!(" {name} of ")), "{marks}");
+    (name, place.parse().expect("a number"))
+}
+
+/// The fields that a refusal number is told at; none where it is told at its record.
+fn fields_of(number: u8) -> &'static [&'static str] {
+    match number {
+        3 => &["currency"],
+        4 => &["side"],
+        5 => &["months", "days", "period", "count"],
+        6 => &[
+            "amount",
+            "coupon",
+            "principal",
+            "spread",
+            "total",
+            "core",
+            "principals",
+            "interests",
+            "amounts",
+            "values",
+        ],
+        7 => &["share"],
+        8 => &["category"],
+        11 => &["interests"],
+        13 => &["rates", "parallel", "short", "long"],
+        _ => &[],
+    }
 }
 
 fn assert_marked(listing: &Listing) {
     let Some(refusal) = &listing.refusal else {
-        assert_eq!(line_after_mark(&listing.text), None);
+        assert_eq!(lines_after_mark(&listing.text), None);
         return;
     };
-    let line = line_after_mark(&listing.text).expect("a mark");
+    let [line, next] = lines_after_mark(&listing.text).expect("a mark");
     assert!(listing.text.contains(&format!("# >>> R {} {}: ", refusal.number, refusal.place)));
     match refusal.number {
-        1..=14 => assert!(line.ends_with(&format!("  # place {}", refusal.place)), "{line}"),
+        3..=8 | 11 | 13 => {
+            let (name, place) = field_marked(line, next);
+            assert!(fields_of(refusal.number).contains(&name) && place == refusal.place, "{line}\n{next}");
+        }
+        1..=14 => assert!(line.ends_with(&format!("  # place {}", refusal.place)) && !next.contains('^'), "{line}"),
         15 => assert_eq!(line, "the end"),
         _ => assert!(line.starts_with("capital ") || line == "the end" || line.contains("# place 0"), "{line}"),
     }

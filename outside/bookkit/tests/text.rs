@@ -84,7 +84,20 @@ fn a_bad_line_is_named_with_its_reason() {
 fn each_number_is_explained_and_no_other() {
     for number in 1..=18 {
         let text = explain(number).expect("an explanation");
-        assert!(text.starts_with(&format!("{number}: ")) && text.lines().count() == 2);
+        let lines: Vec<&str> = text.lines().collect();
+        assert!(lines.len() == 3 && lines[0].starts_with(&format!("{number}: ")), "{text}");
+        let place = match number {
+            3 | 4 | 6 | 7 | 8 => "Its place: the first byte of the field.",
+            5 => "Its place: the first byte of the field; of the count where the last month is too late.",
+            11 => "Its place: the first byte of the interest, the lowest such bucket's.",
+            13 => {
+                "Its place: the first byte of the rate or the shock; for a shocked rate, of the base rate in the lowest"
+            }
+            15 => "Its place: the lowest such currency, which is no byte.",
+            16..=18 => "Its place: always 0.",
+            _ => "Its place: the record's first byte.",
+        };
+        assert!(lines[1].starts_with(place), "{text}");
     }
     assert_eq!((explain(0), explain(19)), (None, None));
 }

@@ -22,10 +22,10 @@ pub fn case(draw: &mut Draw, number: u8, out: bool) -> Case {
 fn aimed_record(draw: &mut Draw, number: u8, out: bool) -> Case {
     let currency = draw.between(1, 8);
     let mut book = front(draw, number, currency);
-    let mut records = aimed_records(draw, number, currency, out);
+    let (mut records, within) = aimed_records(draw, number, currency, out);
     let last = records.pop().expect("an aimed record");
     book.extend(records.concat());
-    let place = book.len();
+    let place = book.len() + within;
     book.extend(last);
     if !out {
         return Case::of(draw, book, Expected::NotRefusedWith(number));
@@ -48,22 +48,32 @@ fn front(draw: &mut Draw, number: u8, currency: i64) -> Vec<u8> {
     joined(&records)
 }
 
-/// Records of the aimed currency, of which the last is the aimed one.
-fn aimed_records(draw: &mut Draw, number: u8, currency: i64, out: bool) -> Vec<Vec<u8>> {
-    let records = match number {
-        1 if out => return vec![vec![draw.pick(&[0, 10, 11, 128, 255])]],
-        2 if out => return vec![cut_short(draw, currency)],
-        1 | 2 => vec![some_position(draw, currency)],
-        9 => vec![limits::core_at_its_cap(draw, currency, out)],
-        10 => vec![limits::core_average_at_its_cap(draw, currency, out)],
-        11 => vec![limits::interest_at_the_last_principal(draw, currency, out)],
-        12 if out => vec![curve(draw, currency), second_curve(draw, currency)],
-        12 => vec![curve(draw, currency)],
-        13 if draw.coin() => vec![shocked_rate(draw, currency, out)],
-        14 => limits::gross_at_its_limit(draw, currency, out),
-        _ => vec![field_at_its_edge(draw, number, currency, out)],
+/// Records of the aimed currency, of which the last is the aimed one, and where in that one the fault is told: at the
+/// field, or at its first byte.
+fn aimed_records(draw: &mut Draw, number: u8, currency: i64, out: bool) -> (Vec<Vec<u8>>, usize) {
+    let whole = |record: Record| (vec![record], 0);
+    let (records, within) = match number {
+        1 if out => return (vec![vec![draw.pick(&[0, 10, 11, 128, 255])]], 0),
+        2 if out => return (vec![cut_short(draw, currency)], 0),
+        1 | 2 => whole(some_position(draw, currency)),
+        9 => whole(limits::core_at_its_cap(draw, currency, out)),
+        10 => whole(limits::core_average_at_its_cap(draw, currency, out)),
+        12 if out => (vec![curve(draw, currency), second_curve(draw, currency)], 0),
+        12 => whole(curve(draw, currency)),
+        14 => (limits::gross_at_its_limit(draw, currency, out), 0),
+        11 => told_at_a_field(limits::interest_at_the_last_principal(draw, currency, out)),
+        13 if draw.coin() => told_at_a_field(shocked_rate(draw, currency, out)),
+        _ => told_at_a_field(field_at_its_edge(draw, number, currency, out)),
     };
-    records.iter().map(Record::bytes).collect()
+    (records.iter().map(Record::bytes).collect(), within)
+}
+
+/// A record with the field at fault, and which of the field's numbers it is, from 0.
+pub type FieldAtFault = (Record, &'static str, usize);
+
+fn told_at_a_field((record, field, index): FieldAtFault) -> (Vec<Record>, usize) {
+    let within = record.kind.place_of(field, index);
+    (vec![record], within)
 }
 
 /// At times with a rate out of range as well: 12 comes first.
@@ -90,7 +100,7 @@ fn cut_short(draw: &mut Draw, currency: i64) -> Vec<u8> {
 }
 
 /// A record with one field at or just beyond the end of its range; everything else in it is good.
-fn field_at_its_edge(draw: &mut Draw, number: u8, currency: i64, out: bool) -> Record {
+fn field_at_its_edge(draw: &mut Draw, number: u8, currency: i64, out: bool) -> FieldAtFault {
     let judged = |kind: &'static Kind| kind.fields.iter().map(move |field| (kind, field));
     let fields: Vec<_> = KINDS.iter().flat_map(judged).filter(|(_, field)| field.item.allowed().0 == number).collect();
     let (kind, field) = draw.pick(&fields);
@@ -100,11 +110,14 @@ fn field_at_its_edge(draw: &mut Draw, number: u8, currency: i64, out: bool) -> R
     };
     let value = match field.item {
         Item::Period if out => draw.pick(&[0, 2, 4, 5, 7, 11, 13, 255]),
-        Item::Period => return plain,
+        Item::Period => plain.one("period"),
         Item::Currency if !out => currency,
         item => edge(draw, item, *item.allowed().1.start(), greatest(&plain, item), out),
     };
-    plain.with(field.name, draw.index(field.times), value)
+    let index = draw.index(field.times);
+    // Good months that are too late for the periods after them are the count's fault.
+    let at_fault = if out && field.item == Item::Months && value <= LAST_MONTH { "count" } else { field.name };
+    (plain.with(field.name, index, value), at_fault, index)
 }
 
 /// The greatest good number of a field where the record's others stay as they are: the last month is at most 600.
@@ -128,17 +141,20 @@ fn edge(draw: &mut Draw, item: Item, first: i64, last: i64, out: bool) -> i64 {
     draw.pick(&beyond)
 }
 
-/// Rates that their shocks bring to the ends of the range; just out, one of them goes a step further.
-fn shocked_rate(draw: &mut Draw, currency: i64, out: bool) -> Record {
+/// Rates that their shocks bring to the ends of the range; just out, one of them goes a step further, and at times a
+/// later one as well: the lowest bucket is told.
+fn shocked_rate(draw: &mut Draw, currency: i64, out: bool) -> FieldAtFault {
     let mut shocks = [0; 3].map(|_| draw.amount(1_000));
     shocks[draw.index(3)] = draw.between(1, 1_000);
     let ends = |bucket| bearable_rates(shocks, bucket);
     let mut rates: Vec<i64> = (0..BUCKETS).map(|bucket| draw.pick(&[ends(bucket).0, ends(bucket).1])).collect();
-    if out {
-        let bucket = draw.index(BUCKETS);
-        rates[bucket] = draw.pick(&[ends(bucket).0 - 1, ends(bucket).1 + 1]);
+    let lowest = draw.index(BUCKETS);
+    for bucket in [lowest, lowest + draw.index(BUCKETS - lowest)] {
+        if out {
+            rates[bucket] = draw.pick(&[ends(bucket).0 - 1, ends(bucket).1 + 1]);
+        }
     }
-    record(8, &[vec![currency], rates, shocks.to_vec()].concat())
+    (record(8, &[vec![currency], rates, shocks.to_vec()].concat()), "rates", lowest)
 }
 
 /// Positions, of nil at times, in up to three currencies that have no curve; just in, the curves follow.

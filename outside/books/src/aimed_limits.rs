@@ -1,5 +1,6 @@
 //! Records at the limits that 9, 10, 11 and 14 set: exactly at them, or one step beyond.
 
+use crate::aimed::FieldAtFault;
 use crate::draw::Draw;
 use crate::position::{position, record, KINDS_WITH_FLOWS};
 use reference::{flows, Record, BUCKETS, CORE_CAPS, GREATEST_GROSS, SCENARIOS};
@@ -38,8 +39,9 @@ pub fn core_average_at_its_cap(draw: &mut Draw, currency: i64, out: bool) -> Rec
     record(4, &[vec![currency, category, 4 * half], core].concat())
 }
 
-/// Interest in the bucket of the last principal or before it; just out, in the bucket after it or later.
-pub fn interest_at_the_last_principal(draw: &mut Draw, currency: i64, out: bool) -> Record {
+/// Interest in the bucket of the last principal or before it; just out, in the bucket after it or later, and at times
+/// in one more after that: the lowest is told.
+pub fn interest_at_the_last_principal(draw: &mut Draw, currency: i64, out: bool) -> FieldAtFault {
     let last = draw.between(step(!out), BUCKETS as i64 - step(out));
     let mut principals = vec![0; BUCKETS];
     for bucket in 0..last {
@@ -50,8 +52,10 @@ pub fn interest_at_the_last_principal(draw: &mut Draw, currency: i64, out: bool)
         false => draw.between(1, last),
     };
     let bucket = if draw.coin() { last + step(out) } else { bucket };
-    let interests = in_buckets(&[(bucket as usize, 1 + draw.amount(1_000))]);
-    record(5, &[vec![currency, draw.between(0, 10_000)], principals, interests].concat())
+    let later = if out { draw.between(bucket, BUCKETS as i64) } else { bucket };
+    let interests = in_buckets(&[(bucket as usize, 1 + draw.amount(1_000)), (later as usize, draw.amount(1_000))]);
+    let record = record(5, &[vec![currency, draw.between(0, 10_000)], principals, interests].concat());
+    (record, "interests", bucket as usize - 1)
 }
 
 pub fn gross_at_its_limit(draw: &mut Draw, currency: i64, out: bool) -> Vec<Record> {

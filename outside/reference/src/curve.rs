@@ -32,7 +32,8 @@ pub fn rate_changes(parallel: i64, short: i64, long: i64, bucket_index: usize) -
 }
 
 impl Curve {
-    /// The curve of a record whose fields have been checked; refuses a shocked rate out of range.
+    /// The curve of a record whose fields have been checked; refuses a shocked rate out of range, at the base rate of
+    /// the lowest bucket that has one in any scenario.
     pub fn from_record(record: &Record) -> Result<Curve, Fault> {
         let mut rates = [[0; BUCKETS]; SCENARIOS + 1];
         for (bucket, base) in record.all("rates").iter().enumerate() {
@@ -45,7 +46,8 @@ impl Curve {
                         "shocked rate of scenario {scenario} in bucket {} is {shocked}, outside -50000 to 300000",
                         bucket + 1
                     )
-                })?;
+                })
+                .map_err(|fault| fault.within(record.kind.place_of("rates", bucket)))?;
                 rates[scenario][bucket] = shocked;
             }
         }

@@ -1,4 +1,5 @@
-//! The fields of a record, judged one after the other as laid out (01, "Turned down": 3 to 8, 12, 13).
+//! The fields of a record, judged one after the other as laid out (01, "Turned down": 3 to 8, 12, 13), each told at its own
+//! place (02, request 2).
 
 use crate::layout::{Field, Item, Record};
 use crate::refusal::{demand, Fault};
@@ -15,7 +16,8 @@ const FLOATING_SPREAD: u8 = 9;
 pub fn check_fields(record: &Record, has_curve: impl Fn(i64) -> bool) -> Result<(), Fault> {
     for field in record.kind.fields {
         for (index, value) in record.all(field.name).iter().enumerate() {
-            check_value(record, field, index, *value)?;
+            check_value(record, field, index, *value)
+                .map_err(|fault| fault.within(record.kind.place_of(field.name, index)))?;
         }
         // "In a curve 12 comes after the currency."
         if record.kind.number == CURVE && field.item == Item::Currency {

@@ -121,7 +121,8 @@ fn check_schedule(record: &Record) -> Result<(), Fault> {
         let principal_left = principals[bucket..].iter().any(|principal| *principal > 0);
         demand(*interest == 0 || principal_left, 11, || {
             format!("interest {interest} in bucket {} has no scheduled principal in it or after", bucket + 1)
-        })?;
+        })
+        .map_err(|fault| fault.within(record.kind.place_of("interests", bucket)))?;
     }
     let scheduled = principals.iter().chain(interests).sum::<i64>();
     demand(scheduled <= GREATEST_GROSS, 14, || {

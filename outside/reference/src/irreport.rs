@@ -18,7 +18,7 @@ pub fn irreport(input: &[u8]) -> String {
 pub fn answer_input(input: &[u8]) -> Answer {
     let Some((capital, book)) = split_input(input) else {
         let because = format!("the input has {} bytes, below the {CAPITAL_BYTES} of capital", input.len());
-        return Answer::Refused(Fault { number: 16, because }.at(0));
+        return Answer::Refused(Fault::of_record(16, because).at(0));
     };
     Request::roomy(book, capital).answer()
 }

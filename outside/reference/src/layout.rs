@@ -152,6 +152,24 @@ impl Kind {
         self.fields.iter().map(|field| field.item.width() * field.times).sum()
     }
 
+    /// Where a number of a field begins in a record of this kind: the kind's own byte is at 0.
+    pub fn place_of(&self, name: &str, index: usize) -> usize {
+        let mut place = 1;
+        for field in self.fields {
+            if field.name == name {
+                return place + field.item.width() * index;
+            }
+            place += field.item.width() * field.times;
+        }
+        panic!("a {} has no {name}", self.name);
+    }
+
+    /// The field and which of its numbers begins at a place within a record of this kind, if one does.
+    pub fn begins_at(&self, place: usize) -> Option<(&'static Field, usize)> {
+        let mut numbers = self.fields.iter().flat_map(|field| (0..field.times).map(move |index| (field, index)));
+        numbers.find(|(field, index)| self.place_of(field.name, *index) == place)
+    }
+
     fn value_count(&self) -> usize {
         self.fields.iter().map(|field| field.times).sum()
     }

@@ -1,15 +1,26 @@
 //! Why a book is turned down (01, "Turned down").
 
-/// A fault found in a record, before its place is known.
+/// A fault found in a record, before it is known where the record begins.
 #[derive(Debug)]
 pub struct Fault {
-    pub number: u8,
-    pub because: String,
+    number: u8,
+    /// Bytes of the record before the field at fault; 0 where the record as a whole is at fault.
+    within: usize,
+    because: String,
 }
 
 impl Fault {
-    pub fn at(self, place: usize) -> Refusal {
-        Refusal { number: self.number, place, because: self.because }
+    pub fn of_record(number: u8, because: String) -> Fault {
+        Fault { number, within: 0, because }
+    }
+
+    pub fn within(self, within: usize) -> Fault {
+        Fault { within, ..self }
+    }
+
+    /// The refusal, where the record begins at `start`.
+    pub fn at(self, start: usize) -> Refusal {
+        Refusal { number: self.number, place: start + self.within, because: self.because }
     }
 }
 
@@ -21,11 +32,11 @@ pub struct Refusal {
     pub because: String,
 }
 
-/// `Err` with the number and the finding, unless the condition holds.
+/// `Err` with the number and the finding, unless the condition holds. The fault is the whole record's until a field's place is told.
 pub fn demand(holds: bool, number: u8, because: impl FnOnce() -> String) -> Result<(), Fault> {
     if holds {
         Ok(())
     } else {
-        Err(Fault { number, because: because() })
+        Err(Fault::of_record(number, because()))
     }
 }

@@ -36,12 +36,12 @@ pub fn walk(book: &[u8]) -> Result<Positions, Refusal> {
                 place += record.length();
             }
             Step::UnknownKind(number) => {
-                return Err(Fault { number: 1, because: format!("kind is {number}, outside 1 to 9") }.at(place));
+                return Err(Fault::of_record(1, format!("kind is {number}, outside 1 to 9")).at(place));
             }
             Step::CutShort { kind, left } => {
                 let because =
                     format!("the body of a {} has {} bytes and {left} are left", kind.name, kind.body_length());
-                return Err(Fault { number: 2, because }.at(place));
+                return Err(Fault::of_record(2, because).at(place));
             }
         }
     }
@@ -112,7 +112,7 @@ impl Positions {
             None => Ok(()),
             Some(index) => {
                 let currency = index + 1;
-                Err(Fault { number: 15, because: format!("currency {currency} is used and has no curve") }.at(currency))
+                Err(Fault::of_record(15, format!("currency {currency} is used and has no curve")).at(currency))
             }
         }
     }

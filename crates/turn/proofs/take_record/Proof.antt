@@ -1,5 +1,5 @@
 -- `take_record`: the currency is bad, the record refused, or taken.
-use Prim.Native.Nat.{ℕ}
+use Prim.Native.Nat.{ℕ, _+_}
 use mathlib.Core.Bool.{Bool, true, false}
 use mathlib.Core.List.{List}
 use mathlib.Core.Path.{_≡_, sym, ap, _∙_}
@@ -19,9 +19,9 @@ use Rattle.arrays.specs.Arrays.{Arrays, arraysAs}
 use Rattle.posting.specs.declared.Taken.the-variants as taken
 use Rattle.lending.specs.Records.{tested}
 use Rattle.turn.specs.declared.Step.{Step}
-use Rattle.turn.specs.Step.{Stepped, faultAt, refusedFor, onTo}
+use Rattle.turn.specs.Step.{Addressed, Stepped, faultAt, refusedFor, onTo}
 use Rattle.fields.proofs.Reading.{value, bad}
-use Rattle.turn.proofs.TurnLaws.{known-long, curves-hold, stepped-bad, stepped-refused, stepped-done}
+use Rattle.turn.proofs.TurnLaws.{known-long, bad-inside, curves-hold, fault-inside, refused-read, stepped-bad, stepped-refused, stepped-done}
 use Rattle.turn.proofs.take_record.Statement.{statement}
 use Rattle.turn.proofs.take_record.Tie as tie
 
@@ -37,7 +37,7 @@ module _ (c : tie.After-known-told) where
   first = value (c .before .before .before .currency-at .ensures) (c .before .read .given .1)
 
   range : Between 1 currencies currency
-  range = known-of (currency-known body 0 currencies) currency first
+  range = known-of (currency-known {bytes = 1} body 0 (omega arith) currencies) currency first
 
 -- and once the record has been taken or refused
 module _ (t : tie.After-take-parts) where
@@ -66,14 +66,21 @@ module _ (t : tie.After-take-parts) where
   refused : (f : Fault) → t .take-parts .result ≡ taken.Refused f → Answers (refusedFor (faultAt (t .before .before .before .before .before .before .before .before .before .before .before .before .before .args .at) f))
   refused f e =
       let s = t .before .before .before .before .before .before .before .before .before .before .before .before .before in
-      stepped-refused (tested (masks .curved) found-before) (s .args .kind) (s .args .at) (s .args .next) 0 (body read) masks found-before (s .pre .1) f {a' = left-after} (t .take-parts .ensures) e
+      stepped-refused (tested (masks .curved) found-before) (s .args .kind) (body read) (s .args .at) (s .args .next) masks found-before f {a' = left-after} (t .take-parts .ensures) e
+
+  -- its fault has a place in the book
+  addressed : (f : Fault) → t .take-parts .result ≡ taken.Refused f → Addressed (t .before .before .before .before .before .before .before .before .before .before .before .before .before .args .at + f .place)
+  addressed f e =
+      let s = t .before .before .before .before .before .before .before .before .before .before .before .before .before in
+      let before = tested (masks .curved) found-before in
+      omega (arith, s .pre .0, s .pre .2, fault-inside before (s .args .kind) (body read) f (refused-read before (s .args .kind) (body read) f {a = found-before} {a' = left-after} (t .take-parts .ensures) e))
 
   -- a curve and a position are marked apart
   done : (b : Bool) → b ≡ curveKind (t .before .before .before .before .before .before .before .before .before .before .before .before .before .args .kind) → t .take-parts .result ≡ taken.Done → {m' : Masks} → m' ≡ markedBy b (currency read) masks
       → Answers (onTo (t .before .before .before .before .before .before .before .before .before .before .before .before .before .args .next) m')
   done b same e marks =
       let s = t .before .before .before .before .before .before .before .before .before .before .before .before .before in
-      stepped-done (tested (masks .curved) found-before) (s .args .kind) (s .args .at) (s .args .next) (currency read) (body read) masks found-before (s .pre .1) (first read)
+      stepped-done (tested (masks .curved) found-before) (s .args .kind) (body read) (s .args .at) (s .args .next) masks found-before (currency read) (first read)
       {a' = left-after} (t .take-parts .ensures) e (marks ∙ ap (λ (x : Bool). markedBy x (currency read) masks) same)
 
 currency-at-requires : tie.Need-currency-at-requires
@@ -89,7 +96,10 @@ fault-requires : tie.Need-fault-requires
 fault-requires c κs = search needs
 
 placed-requires : tie.Need-placed-requires
-placed-requires c κs = search needs
+placed-requires c κs =
+    let s = c .before .before .before .before .before .before .before in
+    let early = bad-inside (s .args .body .now) (c .fault .result) (bad (c .before .before .before .currency-at .ensures) (c .before .enum-told .given .1) (c .fault .ensures)) in
+    omega (arith, s .pre .0, s .pre .2, known-long (s .args .kind) (s .pre .1), early)
 
 stopped-requires : tie.Need-stopped-requires
 stopped-requires c κs = search needs
@@ -98,19 +108,19 @@ returns : tie.Need-returns
 returns c =
     let s = c .before .before .before .before .before .before .before .before .before in
     rw (c .stopped .ensures, c .before .placed .ensures)
-    (stepped-bad _ (s .args .kind) (s .args .at) _ 0 _ _ _ (s .pre .1) _ (bad (c .before .before .before .before .before .currency-at .ensures) (c .before .before .before .enum-told .given .1) (c .before .before .fault .ensures)))
+    (stepped-bad _ (s .args .kind) _ (s .args .at) _ _ _ (s .pre .1) _ (bad (c .before .before .before .before .before .currency-at .ensures) (c .before .before .before .enum-told .given .1) (c .before .before .fault .ensures)))
 
 take-parts-requires : tie.Need-take-parts-requires
 take-parts-requires c κs =
     let w = c .before .before .before .before .before in
     let s = w .before .before .before .before .before .before .before in
-    ((record { long = s .pre .0; first = first w }, range w .from, range w .to), curves-hold (s .pre .2))
+    ((record { long = s .pre .0; first = first w }, range w .from, range w .to), curves-hold (s .pre .3))
 
 enum-known-fault : tie.Need-enum-known-fault
 enum-known-fault c = search needs
 
 placed-requires-2 : tie.Need-placed-requires-2
-placed-requires-2 c κs = search needs
+placed-requires-2 c κs = addressed (c .before .before .before .before .before .before .before .before .before .before) _ (c .before .fault2 .given .1)
 
 stopped-requires-2 : tie.Need-stopped-requires-2
 stopped-requires-2 c κs = search needs

@@ -1,5 +1,6 @@
 -- `turn`: the four answers of the reader.
 use mathlib.Core.Path.{sym, _∙_}
+use native.Mathlib.Omega.{arith}
 use borrow.Author.Needs.{needs}
 use Rattle.turn.proofs.TurnLaws.{turn-end, turn-unknown, turn-cut, turn-record, InBook, in-book}
 use Rattle.turn.proofs.turn.Statement.{statement}
@@ -7,7 +8,7 @@ use Rattle.turn.proofs.turn.Tie as tie
 
 -- where the record lies
 module _ (c : tie.After-known-told) where
-  lies : InBook (c .before .before .before .before .before .before .args .book .now) (c .before .found .given .0 .0) (c .before .found .given .0 .1 .0) (c .before .found .given .0 .1 .1 .0)
+  lies : InBook (c .before .before .before .before .before .before .args .book .now) (c .before .before .before .before .before .before .args .at) (c .before .found .given .0 .0) (c .before .found .given .0 .1 .0) (c .before .found .given .0 .1 .1 .0)
   lies = in-book _ _ _ _ _ (sym (c .before .found .given .1) ∙ c .before .before .before .before .before .before .pre .0)
 
 enum-told : tie.Need-enum-told
@@ -41,7 +42,7 @@ part-take-record-end : tie.Need-part-take-record-end
 part-take-record-end c = lies c .ends
 
 take-record-requires : tie.Need-take-record-requires
-take-record-requires c κs = let w = c .before .before .before .before .before .before in (lies w .long, lies w .known, w .before .before .before .before .before .before .pre .1)
+take-record-requires c κs = let w = c .before .before .before .before .before .before in (lies w .long, lies w .known, omega (arith, lies w .within), w .before .before .before .before .before .before .pre .1)
 
 returns : tie.Need-returns
 returns c = rw (c .stopped .ensures) (turn-end _ _ _ _ _ (sym (c .before .enum-told .given .1) ∙ c .before .before .before .before .before .before .pre .0))

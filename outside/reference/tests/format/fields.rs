@@ -1,4 +1,4 @@
-//! The tables of fields: offset, width and name of each as the layout has them; range and refusal number as the
+//! The tables of fields: offset, width and name of each as the layout has them; range, refusal number and place as the
 //! reference answers a record with such a value.
 
 use crate::page::{number, table};
@@ -43,16 +43,19 @@ fn bytes_of(cell: &str) -> (usize, usize) {
 }
 
 #[test]
-fn a_value_earns_its_refusal_just_outside_its_range() {
+fn a_value_earns_its_refusal_at_its_offset_just_outside_its_range() {
     for kind in &KINDS {
         let record = roomy(kind.number);
         for (row, field) in table(&heading(kind.number), "Offset")[1..].iter().zip(kind.fields) {
-            let refusal = number(&row[REFUSAL]) as u8;
+            let (refusal, offset) = (number(&row[REFUSAL]) as u8, number(&row[OFFSET]) as usize);
+            let (_, width) = bytes_of(&row[BYTES]);
             for value in tried(field, &row[RANGE]) {
-                let answers = [0, field.times - 1].map(|index| number_of(&record.with(field.name, index, value)));
                 let due = !is_in(&row[RANGE], value);
-                let what = format!("{} {value} of {}: {answers:?}", field.name, kind.name);
-                assert_eq!(answers.map(|answer| answer == Some(refusal)), [due; 2], "{what}");
+                for index in [0, field.times - 1] {
+                    let answer = told(&record.with(field.name, index, value));
+                    let what = format!("{} {value} of {}: {answer:?}", field.name, kind.name);
+                    assert_eq!(answer == Some((refusal, offset + index * width)), due, "{what}");
+                }
             }
         }
     }
@@ -73,8 +76,8 @@ fn roomy(kind: u8) -> Record {
     }
 }
 
-fn number_of(record: &Record) -> Option<u8> {
-    Request::roomy(&record.bytes(), 1).answer().refused().map(|(number, _)| number)
+fn told(record: &Record) -> Option<(u8, usize)> {
+    Request::roomy(&record.bytes(), 1).answer().refused()
 }
 
 /// All that one byte holds; else the ends of the range and of what the bytes hold, and what lies beside them.

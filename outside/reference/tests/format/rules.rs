@@ -1,24 +1,34 @@
 //! The table of what one field alone does not show: each row with a book, made from the worked records, that earns it.
 
 use crate::page::{number, table};
-use crate::records::worked;
+use crate::records::{heading, worked};
 use reference::{Record, Request};
 
-fn number_of(book: &[u8], capital: u64) -> Option<u8> {
-    Request::roomy(book, capital).answer().refused().map(|(number, _)| number)
+const WHOLE: &str = "the record's first byte";
+
+fn told(book: &[u8], capital: u64) -> Option<(u8, usize)> {
+    Request::roomy(book, capital).answer().refused()
 }
 
-fn earned(records: &[Record]) -> Option<u8> {
+fn earned(records: &[Record]) -> Option<(u8, usize)> {
     let book: Vec<u8> = records.iter().flat_map(Record::bytes).collect();
-    number_of(&book, 1)
+    told(&book, 1)
 }
 
+/// Where the page says that a field of a kind begins in its record.
+fn offset(kind: u8, field: &str) -> usize {
+    let rows = table(&heading(kind), "Offset");
+    let row = rows.iter().find(|row| row[2] == field).expect("a field of the page");
+    number(&row[0]) as usize
+}
+
+/// The place as the page says it in words, and as it then is in the book, from the page's offsets.
 #[test]
-fn each_rule_has_its_number() {
+fn each_rule_has_its_number_and_its_place() {
     let (flow, curve) = (worked(1), worked(8));
     let cut = &flow.bytes()[..9];
     let earned = [
-        number_of(cut, 1),
+        told(cut, 1),
         earned(&[worked(2).with("count", 0, 101)]),
         earned(&[worked(9).with("months", 0, 589)]),
         earned(&[worked(4).with("core", 10, 451)]),
@@ -27,13 +37,29 @@ fn each_rule_has_its_number() {
         earned(&[curve.clone(), curve.clone()]),
         earned(&[curve.with("rates", 0, -50_000)]),
         earned(&[flow.with("amount", 0, 1_000_000_000), flow.with("amount", 0, 1).with("side", 0, 2)]),
-        number_of(&flow.bytes(), 1),
-        number_of(&[], 0),
-        number_of(&vec![0; 65_529], 1),
-        Request { report_room: 57, ..Request::roomy(&[], 1) }.answer().refused().map(|(number, _)| number),
+        told(&flow.bytes(), 1),
+        told(&[], 0),
+        told(&vec![0; 65_529], 1),
+        Request { report_room: 57, ..Request::roomy(&[], 1) }.answer().refused(),
+    ];
+    let places = [
+        (WHOLE, 0),
+        ("the count", offset(2, "count")),
+        ("the count", offset(9, "count")),
+        (WHOLE, 0),
+        (WHOLE, 0),
+        ("the interest of the lowest such bucket", offset(5, "interests") + 9 * 4),
+        (WHOLE, 84),
+        ("the rate of the lowest bucket at fault, whichever scenario", offset(8, "rates")),
+        (WHOLE, 10),
+        ("the lowest such currency, no byte", 1),
+        ("0", 0),
+        ("0", 0),
+        ("0", 0),
     ];
     let said = table("## What one field alone does not show", "Refusal");
-    let said: Vec<Option<u8>> = said.iter().map(|row| Some(number(&row[0]) as u8)).collect();
+    assert_eq!(said.iter().map(|row| row[2].as_str()).collect::<Vec<_>>(), places.map(|(words, _)| words));
+    let said: Vec<_> = said.iter().zip(places).map(|(row, (_, place))| Some((number(&row[0]) as u8, place))).collect();
     assert_eq!(said, earned);
 }
 

@@ -86,7 +86,7 @@ unfolding at-total
 above-cap-requires c κs =
     let p = c .before .before .before .before in
     let body = at-total (p .before .before .before .before) .body in
-    let limit = known-of (amount-known body 2) (total c) (amount-value (p .before .before .before .amount-at .ensures) (p .before .read2 .given .1)) in
+    let limit = known-of (amount-known {bytes = 82} body 2 (omega arith)) (total c) (amount-value (p .before .before .before .amount-at .ensures) (p .before .read2 .given .1)) in
     (limit .to, omega (arith, core c .small))
 
 returns-4 : tie.Need-returns-4
