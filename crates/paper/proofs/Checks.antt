@@ -7,11 +7,10 @@ use native.Mathlib.Omega.{arith}
 use lib.ListN.{getD}
 use Rattle.laws.specs.Tests.{if_then_else_}
 use Rattle.paper.specs.declared.Refusal.{Refusal}
-use Rattle.paper.specs.Refusals.{Checked, accepted, refused, _>>=_, _>>_, unless, refuseIf}
+use Rattle.paper.specs.Refusals.{ofField, Checked, accepted, refused, _>>=_, _>>_, unless, refuseIf}
 use Rattle.paper.specs.Fields.{field, each}
 use Rattle.paper.specs.Book.{placed, touchesNothing}
 use Rattle.paper.specs.Sound.{Listed}
-use Rattle.paper.specs.Earlier.{ofField}
 
 -- P of a value that is accepted, R of the cause of a refusal and its place
 pub data Checks (R : Refusal → ℕ → Type 0) {A : Type 0} (P : A → Type 0) : Checked A → Type 0 where

@@ -8,12 +8,12 @@ use lib.IntN.{ℤ}
 use lib.ListN.{length}
 use Rattle.laws.specs.Tests.{if_then_else_, _upTo_}
 use Rattle.paper.specs.declared.Refusal.{Refusal}
-use Rattle.paper.specs.Refusals.{numberOf, Checked, accepted, refused, _>>=_, _>>_, unless, refuseIf}
+use Rattle.paper.specs.Refusals.{numberOf, ofField, Checked, accepted, refused, _>>=_, _>>_, unless, refuseIf}
 use Rattle.paper.specs.Records.{Record, bodyLength}
 use Rattle.paper.specs.Ledger.{soFar}
 use Rattle.paper.specs.Fields.{byte}
 use Rattle.paper.specs.Book.{placed, recordAt, nextAt, walkFrom, walk, covered, outcome, reportAfter, ledgerAfter}
-use Rattle.paper.specs.Earlier.{atStart, earlierFrom, earlier, ofField, Told, Alike, both-accept, both-refuse, withoutPlace}
+use Rattle.paper.specs.Earlier.{atStart, earlierFrom, earlier, Told, Alike, both-accept, both-refuse, withoutPlace}
 use Rattle.paper.proofs.Checks.{Checks, Inside, known, gone}
 use Rattle.paper.proofs.Walk.{record-inside}
 

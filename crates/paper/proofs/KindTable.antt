@@ -10,7 +10,7 @@ use borrow.Author.Tests.{eqb-true, eqb-false, ltb-true, ltb-false, ne-eqb}
 use Rattle.laws.specs.Tests.{if_then_else_, _is_, _below_}
 use Rattle.laws.proofs.Tests.{lt-or-ge}
 use Rattle.paper.specs.declared.Refusal.the-variants.{UnknownKind}
-use Rattle.paper.specs.Refusals.{numberOf, Checked, refused}
+use Rattle.paper.specs.Refusals.{numberOf, ofField, Checked, refused}
 use Rattle.paper.specs.Ladder.{buckets}
 use Rattle.paper.specs.Records.{Record, option, curve, kinds, bodyLength, currencyOf, isCurve, curveKind}
 use Rattle.paper.specs.Flow.{flow, adds, gives}
@@ -18,7 +18,6 @@ use Rattle.paper.specs.TurnedDown.{unknownKind, interestAlone, secondCur
 use Rattle.paper.specs.Decode.{decodeSingle, decodeCoupons, decodeFloating, decodeDeposit, decodeLoan, decodeTermDeposit, decodeOption, decodeCurve, decodeFloatingSpread, decode}
 use Rattle.paper.specs.Book.{touchesNothing}
 use Rattle.paper.specs.Sound.{SoundFlows, Sound}
-use Rattle.paper.specs.Earlier.{ofField}
 use Rattle.paper.proofs.Checks.{in-field, in-whole, known, chain, tested, tested-there, each-known}
 use Rattle.paper.proofs.Ranges.{side-known, months-known, days-known, period-known, count-known, amount-known, option-known, share-known, category-known, shock-known, amounts-known, rates-known, none-bad, shocked-ranged}
 use Rattle.paper.proofs.KindLaws.{FlowsOnly, AddOnOnly, CurveOnly, Kind, begins, flows-read, FirstField, of-kind, no-kind}

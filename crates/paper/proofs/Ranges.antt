@@ -15,7 +15,7 @@ use Rattle.laws.specs.Sums.{sumOf}
 use Rattle.laws.proofs.Tests.{and-true, or-true, or-false, any-none, first-to, first-none}
 use Rattle.laws.proofs.Integers.{side}
 use Rattle.laws.proofs.Order.{ltZ-false}
-use Rattle.paper.specs.Refusals.{numberOf}
+use Rattle.paper.specs.Refusals.{numberOf, ofField}
 use Rattle.paper.specs.Scales.{billion}
 use Rattle.paper.specs.Ladder.{buckets}
 use Rattle.paper.specs.Curve.{Curve, rateChanges, shockedRate}
@@ -24,7 +24,6 @@ use Rattle.paper.specs.TurnedDown.{badCurrency, badSide, badMonths, badD
 use Rattle.paper.specs.Fields.{currencyAt, sideAt, monthsAt, daysAt, periodAt, countAt, amountAt, optionAt, shareAt, categoryAt, rateAt, shockAt, each}
 use Rattle.paper.specs.Book.{touchesNothing}
 use Rattle.paper.specs.Sound.{Between, Counted, Small, Ranged, Listed, Amounts}
-use Rattle.paper.specs.Earlier.{ofField}
 use Rattle.paper.proofs.Checks.{Checks, Inside, in-field, field-known, each-known}
 
 -- ---- by the circumstance

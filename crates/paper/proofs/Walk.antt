@@ -9,14 +9,13 @@ use borrow.Author.Tests.{le-leb, leb-false}
 use Rattle.laws.specs.Tests.{if_then_else_, _is_, _upTo_}
 use Rattle.laws.proofs.Totals.{some-more}
 use Rattle.paper.specs.Ladder.{buckets}
-use Rattle.paper.specs.Refusals.{numberOf, Checked, accepted, refused, _>>=_}
+use Rattle.paper.specs.Refusals.{numberOf, ofField, Checked, accepted, refused, _>>=_}
 use Rattle.paper.specs.Records.{Record, currencyOf, isCurve, bodyLength}
 use Rattle.paper.specs.Ledger.{rateOf, totals, SoFar, soFar, curved}
 use Rattle.paper.specs.TurnedDown.{overLimit}
 use Rattle.paper.specs.Fields.{byte}
 use Rattle.paper.specs.Book.{admitted, recordFrom, recordAt, nextAt, walkFrom, walk, covered, outcome, touchesNothing}
 use Rattle.paper.specs.Sound.{Ranged, Sound}
-use Rattle.paper.specs.Earlier.{ofField}
 use Rattle.paper.proofs.Checks.{Checks, Known, Clears, Inside, in-whole, known, known-of, weaker, forget, chain, tested, unless-known, either, placed-known}
 use Rattle.paper.proofs.KindTable.{first-field}
 use Rattle.paper.proofs.Limits.{Limited, limited-none, limited-more}

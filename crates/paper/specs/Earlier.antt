@@ -1,14 +1,14 @@
 -- No part of 01 and 02 as they stand: places as they were told before request 2 of 02, at the record's first byte whichever field was at fault. Kept for one theorem,
 -- `as-before`: a book is accepted, or else earns its number, exactly as it did, and its place lies in the same record.
 use Prim.Native.Nat.{ℕ, zero, suc, _<_}
-use mathlib.Core.Bool.{Bool, true, false, _&&_, _||_}
+use mathlib.Core.Bool.{true, false}
 use mathlib.Core.List.{List, [], _∷_, _++_}
 use mathlib.Core.Path.{_≡_}
 use lib.ListN.{length}
-use Rattle.laws.specs.Tests.{if_then_else_, _is_, _upTo_}
+use Rattle.laws.specs.Tests.{if_then_else_, _upTo_}
 use Rattle.paper.specs.declared.Refusal.{Refusal}
 use Rattle.paper.specs.declared.Refusal.the-variants.{BadCapital, BookTooLong, RoomTooSmall}
-use Rattle.paper.specs.Refusals.{numberOf, Checked, accepted, refused, _>>=_, _>>_, refuseIf}
+use Rattle.paper.specs.Refusals.{ofField, Checked, accepted, refused, _>>=_, _>>_, refuseIf}
 use Rattle.paper.specs.Records.{Record}
 use Rattle.paper.specs.Ledger.{soFar}
 use Rattle.paper.specs.TurnedDown.{badCapital, bookTooLong, roomTooSmall}
@@ -39,10 +39,6 @@ module _ (top : ℕ) where
 unfoldable pub withoutPlace : {A : Type 0} → Checked A → Checked A
 withoutPlace (accepted a) = accepted a
 withoutPlace (refused r place) = refused r 0
-
--- 3 to 8, 11 and 13 are told at a field
-unfoldable pub ofField : Refusal → Bool
-ofField r = let n = numberOf r in (3 upTo n && n upTo 8) || n is 11 || n is 13
 
 -- the place of a refusal then and now
 pub record Told (book : List ℕ) (r : Refusal) (past now : ℕ) : Type 0 where

@@ -1,6 +1,7 @@
 -- Turned down: the number of each cause, and a value that may be refused instead. Each number's circumstance is in TurnedDown.antt.
 use Prim.Native.Nat.{ℕ}
-use mathlib.Core.Bool.{Bool, true, false}
+use mathlib.Core.Bool.{Bool, true, false, _&&_, _||_}
+use Rattle.laws.specs.Tests.{_is_, _upTo_}
 use Rattle.paper.specs.declared.Refusal.{Refusal}
 use Rattle.paper.specs.declared.Refusal.the-variants.{UnknownKind, CutShort, BadCurrency, BadSide, BadTerm, TooLarge, BadShare, BadCategory, CoreAboveCap, CoreTooLong, InterestAlone, SecondCurve, OutOfRange, OverLimit, NoCurve, BadCapital, BookTooLong, RoomTooSmall}
 
@@ -23,6 +24,10 @@ numberOf NoCurve = 15
 numberOf BadCapital = 16
 numberOf BookTooLong = 17
 numberOf RoomTooSmall = 18
+
+-- 3 to 8, 11 and 13 are told at a field, the others of a record at its first byte (02, request 2): that the walk does so is a theorem, `record-inside`
+unfoldable pub ofField : Refusal → Bool
+ofField r = let n = numberOf r in (3 upTo n && n upTo 8) || n is 11 || n is 13
 
 -- a value, or a refusal with its place
 pub data Checked (A : Type 0) : Type 0 where

@@ -17,7 +17,7 @@ fn text_of(name: &str) -> String {
 
 #[test]
 fn text_input_and_report_agree() {
-    for name in ["worked", "small-bank", "damaged"] {
+    for name in ["worked", "small-bank", "damaged", "mistyped"] {
         let input = example(&format!("{name}.input"));
         assert_eq!(make(&example(&format!("{name}.txt"))), Ok(input.clone()), "{name}");
         assert_eq!(irreport(&input), text_of(&format!("{name}.report")), "{name}");
@@ -46,8 +46,21 @@ fn the_small_bank_has_all_kinds_in_two_currencies() {
 }
 
 #[test]
-fn the_damaged_book_is_shown_as_its_text_says() {
-    let listing = show_input(&example("damaged.input"));
-    assert!(text_of("damaged.txt").ends_with(&listing.text));
+fn the_damaged_and_the_mistyped_book_are_shown_as_their_texts_say() {
+    for name in ["damaged", "mistyped"] {
+        let listing = show_input(&example(&format!("{name}.input")));
+        assert!(text_of(&format!("{name}.txt")).ends_with(&listing.text), "{name}");
+    }
     assert!(example("small-bank.input").starts_with(&example("damaged.input")));
+}
+
+/// The loan lies at 98; bucket 18's principal is 4 + 68 bytes into it, its interest 80 + 68.
+#[test]
+fn the_mistyped_book_lacks_two_amounts_and_is_told_at_the_first_interest_left_alone() {
+    let (good, mistyped) = (example("small-bank.input"), example("mistyped.input"));
+    let principals = [1_500u32, 4_000].map(u32::to_be_bytes).concat();
+    let mended = [&mistyped[..8 + 170], &principals, &mistyped[8 + 178..]].concat();
+    assert_eq!(mended, good);
+    assert_eq!(mistyped[8 + 246..8 + 250], 250u32.to_be_bytes());
+    assert_eq!(text_of("mistyped.report"), "R 11 246\n");
 }
