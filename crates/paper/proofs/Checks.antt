@@ -63,13 +63,9 @@ module _ {R : Refusal → ℕ → Type 0} {A : Type 0} {P : A → Type 0} where
   weaker h (known p) = known (h _ p)
   weaker h (gone c) = gone c
 
-  -- less of the cause
-  pub looser : {S : Refusal → ℕ → Type 0} → ((q : Refusal) (place : ℕ) → R q place → S q place) → {m : Checked A} → Checks R P m → Checks S P m
-  looser h (known p) = known p
-  looser h (gone c) = gone (h _ _ c)
-
   pub forget : {m : Checked A} → Checks R P m → Known P m
-  forget = looser (λ q place c. tt)
+  forget (known p) = known p
+  forget (gone c) = gone tt
 
   -- what the first link is known to give may be used in the rest
   pub chain : {B : Type 0} {Q : B → Type 0} {m : Checked A} {next : A → Checked B} → Checks R P m → ((a : A) → P a → Checks R Q (next a)) → Checks R Q (m >>= next)

@@ -82,6 +82,7 @@ module _ (top : ℕ) where
   unfolding admitted touchesNothing numberOf ofField
   admitted-inside before kind body = chain (first-field top (before .curved) kind body .sound) (λ r s. unless-known _ _ _ _ (in-whole refl refl) (λ t. (s, t)))
 
+  -- and a record at a place of the book
   pub record-inside : (kept : List Record) (book : List ℕ) (at : ℕ) → Checks (Inside (bodyLength (byte book at))) (Passed top kept) (recordFrom top (soFar kept) book at)
   unfolding touchesNothing numberOf ofField
   record-inside kept book at =

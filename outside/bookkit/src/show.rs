@@ -82,11 +82,7 @@ fn pointer(record: &Record, start: usize, place: usize) -> Option<String> {
     let (field, index) = record.kind.begins_at(place - start)?;
     let blanks = " ".repeat(line_before(record, Some(field)).len());
     let marks = "^".repeat(item(record, field).len());
-    let which = match field.times {
-        1 => String::new(),
-        _ => format!(" of {} {}", field.counted_by(), index + 1),
-    };
-    Some(format!("#{blanks}{marks} {}{which}, place {place}\n", field.name))
+    Some(format!("#{blanks}{marks} {}{}, place {place}\n", field.name, field.which(index)))
 }
 
 /// Bytes that make no whole record of a known kind.

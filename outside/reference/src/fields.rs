@@ -1,5 +1,5 @@
-//! The fields of a record, judged one after the other as laid out (01, "Turned down": 3 to 8, 12, 13), each told at its own
-//! place (02, request 2).
+//! The fields of a record, judged one after the other as laid out (01, "Turned down": 3 to 8, 12, 13), each told at its
+//! own place (02, request 2).
 
 use crate::layout::{Field, Item, Record};
 use crate::refusal::{demand, Fault};
@@ -54,21 +54,13 @@ fn check_value(record: &Record, field: &Field, index: usize, value: i64) -> Resu
     }
     let (number, allowed) = field.item.allowed();
     demand(allowed.contains(&value), number, || {
-        let (name, position) = (field.name, position(field, index));
-        format!("{name}{position} is {value}, outside {} to {}", allowed.start(), allowed.end())
+        let (name, which) = (field.name, field.which(index));
+        format!("{name}{which} is {value}, outside {} to {}", allowed.start(), allowed.end())
     })?;
     if field.item == Item::Count {
         check_last_month(record, value)?;
     }
     Ok(())
-}
-
-/// Says which of a field's numbers is meant.
-fn position(field: &Field, index: usize) -> String {
-    match field.times {
-        1 => String::new(),
-        _ => format!(" of {} {}", field.counted_by(), index + 1),
-    }
 }
 
 fn check_period(period: i64) -> Result<(), Fault> {

@@ -66,6 +66,14 @@ pub struct Field {
 }
 
 impl Field {
+    /// Says which of the field's numbers is meant, where it holds several.
+    pub fn which(&self, index: usize) -> String {
+        match self.times {
+            1 => String::new(),
+            _ => format!(" of {} {}", self.counted_by(), index + 1),
+        }
+    }
+
     /// What the numbers of a field that holds several are counted by.
     pub fn counted_by(&self) -> &'static str {
         if self.times == SCENARIOS {

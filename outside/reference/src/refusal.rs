@@ -32,7 +32,8 @@ pub struct Refusal {
     pub because: String,
 }
 
-/// `Err` with the number and the finding, unless the condition holds. The fault is the whole record's until a field's place is told.
+/// `Err` with the number and the finding, unless the condition holds. The fault is the whole record's, until a field's
+/// place is told.
 pub fn demand(holds: bool, number: u8, because: impl FnOnce() -> String) -> Result<(), Fault> {
     if holds {
         Ok(())
