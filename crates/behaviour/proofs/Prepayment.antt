@@ -11,7 +11,7 @@ use Rattle.laws.specs.Tests.{_is_, _below_}
 use Rattle.laws.specs.Sums.{sum, sumOf}
 use Rattle.laws.proofs.Sums.{sum-add, sum-le, sum-mono}
 use Rattle.laws.proofs.Totals.{sum-getD, sum-drop}
-use Rattle.paper.specs.Ladder.{buckets}
+use Rattle.paper.specs.Ladder.{buckets, width}
 use Rattle.paper.specs.Behaviour.{paid, prepaid, interest, outstandingAt, scheduledAt, paidAt, prepaidAt, interestAt, loanFlow}
 use Rattle.paper.specs.TurnedDown.{interestAlone}
 use Rattle.paper.proofs.Loan.{taken-so-far, on-schedule, interest-at-most}
@@ -44,24 +44,25 @@ module _ (rate : ℕ) (principals interests : List ℕ) where
         sum-getD interests buckets few,
       )
 
-  -- ---- bucket k + 1: its scheduled amounts, and the two balances before payment
+  -- ---- bucket k + 1: its width, its scheduled amounts, and the two balances before payment
 
-  pub record Before (k principal charge outstanding remaining : ℕ) : Type 0 where
+  pub record Before (k months principal charge outstanding remaining : ℕ) : Type 0 where
+    pub months-are : months ≡ width k
     pub principal-is : principal ≡ getD principals k 0
     pub charge-is : charge ≡ getD interests k 0
     pub outstanding-is : outstanding ≡ outstandingAt rate principals k
     pub remaining-is : remaining ≡ scheduledAt principals k
 
-  module _ {k principal charge outstanding remaining : ℕ} (b : Before k principal charge outstanding remaining) where
-    pub flow-is : (flow : ℕ) → flow ≡ paid principal outstanding + prepaid rate principal outstanding + interest charge outstanding remaining
+  module _ {k months principal charge outstanding remaining : ℕ} (b : Before k months principal charge outstanding remaining) where
+    pub flow-is : (flow : ℕ) → flow ≡ paid principal outstanding + prepaid rate months principal outstanding + interest charge outstanding remaining
         → flow ≡ loanFlow rate principals interests k
     unfolding loanFlow paidAt prepaidAt interestAt
-    flow-is flow e = e ∙ rw (b .principal-is, b .charge-is, b .outstanding-is, b .remaining-is)
+    flow-is flow e = e ∙ rw (b .months-are, b .principal-is, b .charge-is, b .outstanding-is, b .remaining-is)
 
-    pub left-is : (left : ℕ) → left ≡ outstanding - paid principal outstanding - prepaid rate principal outstanding
+    pub left-is : (left : ℕ) → left ≡ outstanding - paid principal outstanding - prepaid rate months principal outstanding
         → left ≡ outstandingAt rate principals (suc k)
     unfolding outstandingAt
-    left-is left e = e ∙ rw (b .principal-is, b .outstanding-is)
+    left-is left e = e ∙ rw (b .months-are, b .principal-is, b .outstanding-is)
 
     pub rest-is : (principal ≤ remaining) × (remaining - principal ≡ scheduledAt principals (suc k))
     unfolding scheduledAt

@@ -7,6 +7,7 @@ ghost use Rattle.laws.specs.Tests.{_is_, _below_};
 ghost use Rattle.laws.specs.Sums.{sum, sumOf};
 ghost use Rattle.laws.specs.Lists.{tabulate};
 ghost use Rattle.paper.specs.Scales.{billion};
+ghost use Rattle.paper.specs.Ladder as Ladder;
 ghost use Rattle.paper.specs.Ladder.{buckets};
 ghost use Rattle.paper.specs.Behaviour.{wholeRate, paid, prepaid, interest, loanFlow};
 ghost use Rattle.fields.specs.Answers.{amountsFrom};
@@ -15,6 +16,7 @@ use crate::amounts::amount_of;
 use crate::amounts::sum_from;
 use crate::rates::RATES;
 use crate::rates::rates_of;
+use ladder::widths;
 use paper::BUCKETS;
 use scales::Thousands;
 
@@ -33,12 +35,12 @@ fn paid(scheduled: Thousands, outstanding: Thousands) -> Thousands
     outstanding
 }
 
-// The rate's part of the balance before payment, at most what payment leaves.
-fn prepaid(rate: u64, scheduled: Thousands, outstanding: Thousands) -> Thousands
-    requires { ⌜ (rate ≤ wholeRate) × (outstanding .0 ≤ billion) ⌝ }
-    ensures { λ r. ⌜ (r .0 ≡ prepaid rate (scheduled .0) (outstanding .0)) × (paid (scheduled .0) (outstanding .0) + r .0 ≤ outstanding .0) ⌝ }
+// The rate is a year's: its part of the balance before payment for so many months, at most what payment leaves.
+fn prepaid(rate: u64, width: u64, scheduled: Thousands, outstanding: Thousands) -> Thousands
+    requires { ⌜ (rate ≤ wholeRate) × (width ≤ 120) × (outstanding .0 ≤ billion) ⌝ }
+    ensures { λ r. ⌜ (r .0 ≡ prepaid rate width (scheduled .0) (outstanding .0)) × (paid (scheduled .0) (outstanding .0) + r .0 ≤ outstanding .0) ⌝ }
 {
-    let part = Thousands(outstanding.0 * rate / 100000);
+    let part = Thousands(outstanding.0 * rate * width / 1200000);
     let left = Thousands(outstanding.0 - paid(scheduled, outstanding).0);
     if part.0 < left.0 {
         return part;
@@ -58,21 +60,22 @@ fn interest(scheduled: Thousands, outstanding: Thousands, remaining: Thousands) 
     Thousands(scheduled.0 * outstanding.0 / remaining.0)
 }
 
-// One bucket: its scheduled principal and interest, and the balance and the scheduled one before payment.
+// One bucket: its width, its scheduled principal and interest, and the balance and the scheduled one before payment.
 fn bucket_step(
     rate: u64,
+    width: u64,
     principal: Thousands,
     charge: Thousands,
     outstanding: Thousands,
     remaining: Thousands,
 ) -> Step
-    requires { ⌜ (rate ≤ wholeRate) × (charge .0 ≤ billion) × (outstanding .0 ≤ remaining .0) × (remaining .0 ≤ billion) ⌝ }
+    requires { ⌜ (rate ≤ wholeRate) × (width ≤ 120) × (charge .0 ≤ billion) × (outstanding .0 ≤ remaining .0) × (remaining .0 ≤ billion) ⌝ }
     requires { ⌜ (0 below charge .0 && remaining .0 is 0) ≡ false ⌝ }
-    ensures { λ r. ⌜ r .flow .0 ≡ paid (principal .0) (outstanding .0) + prepaid rate (principal .0) (outstanding .0) + interest (charge .0) (outstanding .0) (remaining .0) ⌝ }
-    ensures { λ r. ⌜ r .left .0 ≡ outstanding .0 - paid (principal .0) (outstanding .0) - prepaid rate (principal .0) (outstanding .0) ⌝ }
+    ensures { λ r. ⌜ r .flow .0 ≡ paid (principal .0) (outstanding .0) + prepaid rate width (principal .0) (outstanding .0) + interest (charge .0) (outstanding .0) (remaining .0) ⌝ }
+    ensures { λ r. ⌜ r .left .0 ≡ outstanding .0 - paid (principal .0) (outstanding .0) - prepaid rate width (principal .0) (outstanding .0) ⌝ }
 {
     let scheduled = paid(principal, outstanding);
-    let early = prepaid(rate, principal, outstanding);
+    let early = prepaid(rate, width, principal, outstanding);
     let charged = interest(charge, outstanding, remaining);
     Step {
         flow: Thousands(scheduled.0 + early.0 + charged.0),
@@ -81,8 +84,14 @@ fn bucket_step(
 }
 
 // One rate's nineteen flows, and their sum.
-fn loan_row(body: &[u8], rate: u64, principal: Thousands, row: &mut [u64]) -> Thousands
-    requires { ⌜ (length (now body) ≡ 155) × (rate ≤ wholeRate) × (length (now row) ≡ buckets) ⌝ }
+fn loan_row(
+    body: &[u8],
+    rate: u64,
+    widths: &[u32],
+    principal: Thousands,
+    row: &mut [u64],
+) -> Thousands
+    requires { ⌜ (length (now body) ≡ 155) × (rate ≤ wholeRate) × (now widths ≡ Ladder.widths) × (length (now row) ≡ buckets) ⌝ }
     requires { ⌜ (principal .0 ≡ sumOf (amountsFrom (now body) 3)) × SoundSchedule (amountsFrom (now body) 3) (amountsFrom (now body) 79) ⌝ }
     ensures { λ r. ⌜ now (row .exit) ≡ tabulate (loanFlow rate (amountsFrom (now (body .entry)) 3) (amountsFrom (now (body .entry)) 79)) buckets ⌝ }
     ensures { λ r. ⌜ r .0 ≡ sum (loanFlow rate (amountsFrom (now (body .entry)) 3) (amountsFrom (now (body .entry)) 79)) buckets ⌝ }
@@ -94,7 +103,14 @@ fn loan_row(body: &[u8], rate: u64, principal: Thousands, row: &mut [u64]) -> Th
     while k < BUCKETS {
         let scheduled = amount_of(body, 3, k);
         let charge = amount_of(body, 79, k);
-        let step = bucket_step(rate, scheduled, charge, outstanding, remaining);
+        let step = bucket_step(
+            rate,
+            widths[k] as u64,
+            scheduled,
+            charge,
+            outstanding,
+            remaining,
+        );
         row[k] = step.flow.0;
         total.0 += step.flow.0;
         outstanding = step.left;
@@ -112,13 +128,14 @@ pub fn loan_rows(body: &[u8], share: u32, rows: &mut [u64], sums: &mut [u64])
     ensures { λ _. ⌜ now (sums .exit) ≡ loanSums share (now (body .entry)) ⌝ }
 {
     let rates = rates_of(share);
+    let widths = widths();
     let principal = sum_from(body, 3);
     let mut i: usize = 0;
     while i < RATES {
         let rate = rates[i];
         let from = BUCKETS * i;
         let to = from + BUCKETS;
-        sums[i] = loan_row(body, rate, principal, &mut rows[from..to]).0;
+        sums[i] = loan_row(body, rate, &widths, principal, &mut rows[from..to]).0;
         i += 1;
     }
 }

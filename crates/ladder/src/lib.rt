@@ -1,7 +1,7 @@
 // The time ladder (01, "Time ladder"; 001, table 3), and the exponent that a rate and a midpoint make.
 ghost use mathlib.Core.Path.{_≡_};
 ghost use Prim.Native.Nat.{_<_, _≤_};
-ghost use Rattle.paper.specs.Ladder.{buckets, bucketOf, midpoints};
+ghost use Rattle.paper.specs.Ladder.{buckets, bucketOf, midpoints, widths};
 ghost use Rattle.paper.specs.Sound.{Ranged};
 ghost use Rattle.ladder.specs.Ends.{byEnd};
 ghost use Rattle.ladder.specs.Reach.{OnLadder, IsExponent};
@@ -56,6 +56,36 @@ pub fn midpoints() -> [u32; BUCKETS]
     ensures { λ r. ⌜ r ≡ midpoints ⌝ }
 {
     MIDPOINTS
+}
+
+// Of buckets 1 to 19, in months.
+const WIDTHS: [u32; BUCKETS] = [
+    0,
+    1,
+    2,
+    3,
+    3,
+    3,
+    6,
+    6,
+    12,
+    12,
+    12,
+    12,
+    12,
+    12,
+    12,
+    12,
+    60,
+    60,
+    120,
+];
+
+// Lent as the midpoints are.
+pub fn widths() -> [u32; BUCKETS]
+    ensures { λ r. ⌜ r ≡ widths ⌝ }
+{
+    WIDTHS
 }
 
 // In the months up to a bucket's end, which belongs to it: that bucket, or the next once the days are past the end's.

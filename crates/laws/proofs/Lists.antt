@@ -1,14 +1,18 @@
--- Lists given by a rule of the index: their length, their elements, when two are one, and a store into one.
-use Prim.Native.Nat.{ℕ, zero, suc, _+_, _≤_, _<_}
+-- Lists given by a rule of the index: their length, their elements, when two are one, and a store into one. Tables of numbers, and their greatest.
+use Prim.Native.Nat.{ℕ, zero, suc, zero-le, _+_, _≤_, _<_}
+use mathlib.Core.Bool.{true}
 use mathlib.Core.List.{List, _∷_}
-use mathlib.Core.Logic.{_≢_}
+use mathlib.Core.Logic.{_≢_, ⊎-elim}
 use mathlib.Core.Path.{_≡_, refl, sym, ap, ap₂, _∙_}
 use native.Mathlib.Decide.{ℕ-discrete}
 use native.Mathlib.Nat.{add-zero, zero-add, add-comm}
 use native.Mathlib.Omega.{arith}
 use lib.ListN.{length, getD, set, replicate, length-set, List·getD-eq-default}
 use lib.Seq.{ext-getD, getD-set-same, getD-set-other}
+use borrow.Author.Tests.{leb-true}
+use Rattle.laws.specs.Tests.{_upTo_, all}
 use Rattle.laws.specs.Lists.{tabulateFrom, tabulate}
+use Rattle.laws.proofs.Tests.{lt-or-ge, all-at}
 
 module _ {A : Type 0} where
   -- ---- from a on
@@ -80,3 +84,10 @@ module _ {A : Type 0} where
       at : (j : ℕ) → j < n → Dec (j ≡ k) → getD (set (tabulate f n) k v) j d ≡ g j
       at j l (yes e) = rw e (getD-set-same (tabulate f n) k v d (omega (arith, tabulate-length f n)) ∙ sym here)
       at j l (no m) = getD-set-other (tabulate f n) k j v d m ∙ tabulate-at f n j d l ∙ same j m
+
+-- ---- a table whose numbers a computed test finds to be at most so much: past its end there is none
+
+pub table-most : (table : List ℕ) (most : ℕ) → all (λ j. getD table j 0 upTo most) 0 (length table) ≡ true → (k : ℕ) → getD table k 0 ≤ most
+table-most table most tested k =
+    ⊎-elim (λ (h : k < length table). leb-true _ _ (all-at (λ j. getD table j 0 upTo most) 0 (length table) tested k zero-le (omega arith)))
+    (λ (h : length table ≤ k). rw (List·getD-eq-default table 0 {n = k} h) zero-le) (lt-or-ge k (length table))

@@ -6,6 +6,7 @@ pub mod DecodeCases
 -- ladder, behaviour, spread, magnitudes, and what refusal 14 leaves
 pub mod Buckets
 pub mod Midpoints
+pub mod Widths
 pub mod Loan
 pub mod Deposits
 pub mod Spread

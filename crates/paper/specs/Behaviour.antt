@@ -4,7 +4,7 @@ use mathlib.Core.List.{List, [], _∷_}
 use lib.ListN.{getD, drop}
 use Rattle.laws.specs.Tests.{if_then_else_, _is_}
 use Rattle.laws.specs.Sums.{sum, total, sumOf}
-use Rattle.paper.specs.Ladder.{buckets, midpoint}
+use Rattle.paper.specs.Ladder.{buckets, midpoint, width}
 
 -- ---- kind 4: a core and the rest (001, 6.1, table 4)
 
@@ -45,14 +45,18 @@ prepaymentRate = behaviouralRate prepaymentMultipliers
 abbrev pub withdrawalRate : ℕ → ℕ → ℕ
 withdrawalRate = behaviouralRate withdrawalMultipliers
 
--- ---- kind 5, in one bucket (001, 6.3): of what is scheduled and what is outstanding before payment
+-- ---- kind 5, in one bucket (001, 6.3; 02, request 3): of what is scheduled and what is outstanding before payment
 
 unfoldable pub paid : ℕ → ℕ → ℕ
 paid scheduled outstanding = min scheduled outstanding
 
--- the rate's part, at most what payment leaves
-unfoldable pub prepaid : ℕ → ℕ → ℕ → ℕ
-prepaid rate scheduled outstanding = min (outstanding * rate / wholeRate) (outstanding - paid scheduled outstanding)
+-- the whole rate for a year of twelve months
+abbrev pub wholeYear : ℕ
+wholeYear = 1200000
+
+-- the rate is a year's: its part for the bucket's width in months, rounded once, at most what payment leaves
+unfoldable pub prepaid : ℕ → ℕ → ℕ → ℕ → ℕ
+prepaid rate width scheduled outstanding = min (outstanding * rate * width / wholeYear) (outstanding - paid scheduled outstanding)
 
 -- nil where scheduled interest is nil
 unfoldable pub interest : ℕ → ℕ → ℕ → ℕ
@@ -66,7 +70,7 @@ unfoldable pub outstandingAt : ℕ → List ℕ → ℕ → ℕ
 outstandingAt rate principals zero = sumOf principals
 outstandingAt rate principals (suc k) =
     let outstanding = outstandingAt rate principals k in
-    outstanding - paid (getD principals k 0) outstanding - prepaid rate (getD principals k 0) outstanding
+    outstanding - paid (getD principals k 0) outstanding - prepaid rate (width k) (getD principals k 0) outstanding
 
 -- scheduled outstanding before payment: the principals from this bucket on
 unfoldable pub scheduledAt : List ℕ → ℕ → ℕ
@@ -76,7 +80,7 @@ unfoldable pub paidAt : ℕ → List ℕ → ℕ → ℕ
 paidAt rate principals k = paid (getD principals k 0) (outstandingAt rate principals k)
 
 unfoldable pub prepaidAt : ℕ → List ℕ → ℕ → ℕ
-prepaidAt rate principals k = prepaid rate (getD principals k 0) (outstandingAt rate principals k)
+prepaidAt rate principals k = prepaid rate (width k) (getD principals k 0) (outstandingAt rate principals k)
 
 unfoldable pub interestAt : ℕ → List ℕ → List ℕ → ℕ → ℕ
 interestAt rate principals interests k = interest (getD interests k 0) (outstandingAt rate principals k) (scheduledAt principals k)

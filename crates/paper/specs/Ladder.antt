@@ -49,3 +49,10 @@ midpoints =
 
 abbrev pub midpoint : ℕ → ℕ
 midpoint k = getD midpoints k 0
+
+-- in months (02, request 3): one night has none, and what is above twenty years has ten years
+unfoldable pub widths : List ℕ
+widths = 0 ∷ 1 ∷ 2 ∷ 3 ∷ 3 ∷ 3 ∷ 6 ∷ 6 ∷ 12 ∷ 12 ∷ 12 ∷ 12 ∷ 12 ∷ 12 ∷ 12 ∷ 12 ∷ 60 ∷ 60 ∷ 120 ∷ []
+
+abbrev pub width : ℕ → ℕ
+width k = getD widths k 0

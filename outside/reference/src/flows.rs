@@ -1,7 +1,7 @@
-//! The flows of one record in the base and in each scenario (01, "Records").
+//! The flows of one record in the base and in each scenario (01, "Records"; 02, requests 1 and 3).
 
 use crate::fields::periods_start;
-use crate::ladder::{bucket_index, BUCKETS, MIDPOINTS};
+use crate::ladder::{bucket_index, width, BUCKETS, MIDPOINTS};
 use crate::layout::{Record, SCENARIOS};
 use crate::refusal::{demand, Fault};
 
@@ -16,10 +16,11 @@ pub const GREATEST_GROSS: i64 = 1_000_000_000;
 /// in ten-thousandths of a year.
 pub const CORE_CAPS: [(i64, i64); 3] = [(90, 50_000), (70, 45_000), (50, 40_000)];
 
-/// A rate is the share times one of these, base first, in hundred-thousandths.
+/// A rate is the share times one of these, base first, in hundred-thousandths; a loan's is by the year.
 const LOAN_MULTIPLES: [i64; SCENARIOS + 1] = [10, 8, 12, 8, 12, 8, 12];
 const TERM_DEPOSIT_MULTIPLES: [i64; SCENARIOS + 1] = [10, 12, 8, 8, 12, 12, 8];
 const WHOLE_RATE: i64 = 100_000;
+const MONTHS_OF_A_YEAR: i64 = 12;
 
 /// What a record has to meet beyond its single fields, in the order 9, 10, 11, 14; the running limbs of 14
 /// are the walk's.
@@ -137,7 +138,8 @@ fn prepayable_loan(record: &Record, rate: i64) -> Ladder {
     let mut ladder = [0; BUCKETS];
     for bucket in 0..BUCKETS {
         let paid = principals[bucket].min(outstanding);
-        let prepaid = (outstanding * rate / WHOLE_RATE).min(outstanding - paid);
+        let asked = outstanding * rate * width(bucket) / (WHOLE_RATE * MONTHS_OF_A_YEAR);
+        let prepaid = asked.min(outstanding - paid);
         let interest = match interests[bucket] {
             0 => 0,
             scheduled => scheduled * outstanding / scheduled_outstanding,

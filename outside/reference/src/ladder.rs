@@ -30,6 +30,15 @@ pub const UPPER_ENDS: [(i64, i64); BUCKETS - 1] = [
     (240, 0),
 ];
 
+/// In months, from the end before to the bucket's own; 02 sets the first and the last.
+pub fn width(bucket: usize) -> i64 {
+    match bucket {
+        0 => 0,
+        _ if bucket + 1 == BUCKETS => 120,
+        _ => UPPER_ENDS[bucket].0 - UPPER_ENDS[bucket - 1].0,
+    }
+}
+
 /// The bucket of a term, counted from 0: bucket 1 of the paper is 0 here.
 pub fn bucket_index(months: i64, days: i64) -> usize {
     UPPER_ENDS.iter().filter(|end| (months, days) > **end).count()
@@ -37,7 +46,7 @@ pub fn bucket_index(months: i64, days: i64) -> usize {
 
 #[cfg(test)]
 mod tests {
-    use super::{MIDPOINTS, UPPER_ENDS};
+    use super::{width, BUCKETS, MIDPOINTS, UPPER_ENDS};
 
     /// Buckets 2 to 18 lie between whole months; the first and the last midpoint are set by the paper.
     #[test]
@@ -46,5 +55,12 @@ mod tests {
         let middles: Vec<i64> = UPPER_ENDS.windows(2).map(middle).collect();
         assert_eq!(MIDPOINTS[1..18], middles);
         assert_eq!((MIDPOINTS[0], MIDPOINTS[18]), (28, 250_000));
+    }
+
+    /// As 02, request 3, lists them.
+    #[test]
+    fn widths_are_those_listed() {
+        let listed = [0, 1, 2, 3, 3, 3, 6, 6, 12, 12, 12, 12, 12, 12, 12, 12, 60, 60, 120];
+        assert_eq!(std::array::from_fn::<_, BUCKETS, _>(width), listed);
     }
 }

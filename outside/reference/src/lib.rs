@@ -29,7 +29,7 @@ pub use fields::{periods_start, LAST_MONTH, RATES};
 pub use flows::{flows, Flows, CORE_CAPS, GREATEST_GROSS};
 pub use fraction::Fraction;
 pub use irreport::{answer_input, irreport, split_input, CAPITAL_BYTES};
-pub use ladder::{bucket_index, BUCKETS, MIDPOINTS, UPPER_ENDS};
+pub use ladder::{bucket_index, width, BUCKETS, MIDPOINTS, UPPER_ENDS};
 pub use layout::{split, step, Field, Item, Kind, Record, Step, CURRENCIES, KINDS, SCENARIOS};
 pub use refusal::Refusal;
 pub use report::{Return, Verdict, REPORT_CELLS};

@@ -3,8 +3,8 @@
 use crate::page::{number, table};
 use crate::records::{heading, worked};
 use reference::{
-    bucket_index, flows, rate_changes, Request, BUCKETS, CAPITAL_BYTES, CORE_CAPS, CURRENCIES, GREATEST_CAPITAL, KINDS,
-    LAST_MONTH, LONGEST_BOOK, MIDPOINTS, SCENARIOS, UPPER_ENDS,
+    bucket_index, flows, rate_changes, width, Request, BUCKETS, CAPITAL_BYTES, CORE_CAPS, CURRENCIES, GREATEST_CAPITAL,
+    KINDS, LAST_MONTH, LONGEST_BOOK, MIDPOINTS, SCENARIOS, UPPER_ENDS,
 };
 use std::collections::BTreeSet;
 
@@ -24,6 +24,8 @@ fn the_ladder() {
     let rows = table("## The ladder", "Bucket");
     let midpoints: Vec<i64> = rows.iter().map(|row| number(&row[3])).collect();
     assert_eq!(midpoints, MIDPOINTS);
+    let widths: Vec<i64> = rows.iter().map(|row| number(&row[4])).collect();
+    assert_eq!(widths, std::array::from_fn::<_, BUCKETS, _>(width));
     for (index, row) in rows.iter().enumerate() {
         assert_eq!(number(&row[0]), index as i64 + 1);
         if index + 1 == BUCKETS {
@@ -36,16 +38,18 @@ fn the_ladder() {
     }
 }
 
-/// A term deposit of a million in the last bucket, of which a share of 1,000 moves to the first; a loan likewise.
+/// A term deposit of a million in the last bucket, of which a share of 1,000 moves to the first; a loan of twelve
+/// million, of which a twelfth of the share comes in the month of the second.
 #[test]
 fn the_scenarios_multiply_shares() {
-    let far =
-        |kind, name| worked(kind).with("share", 0, 1_000).with(name, 8, 0).with(name, 5, 0).with(name, 18, 1_000_000);
-    let loan = flows(&far(5, "principals").with("interests", 8, 0));
-    let deposit = flows(&far(6, "amounts"));
+    let far = |kind, name, amount| {
+        worked(kind).with("share", 0, 1_000).with(name, 8, 0).with(name, 5, 0).with(name, 18, amount)
+    };
+    let loan = flows(&far(5, "principals", 12_000_000).with("interests", 8, 0));
+    let deposit = flows(&far(6, "amounts", 1_000_000));
     for (scenario, row) in table("## The scenarios", "Scenario").iter().enumerate() {
         assert_eq!(number(&row[0]), scenario as i64);
-        assert_eq!(loan[scenario][0], 10_000 * number(&row[5]), "kind 5, scenario {scenario}");
+        assert_eq!(loan[scenario][1], 10_000 * number(&row[5]), "kind 5, scenario {scenario}");
         assert_eq!(deposit[scenario][0], -10_000 * number(&row[6]), "kind 6, scenario {scenario}");
     }
 }

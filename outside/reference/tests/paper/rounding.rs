@@ -47,18 +47,27 @@ fn a_term_deposit_is_rounded_down_in_each_bucket() {
     assert_eq!(net_flows(term_deposit(1, 9_000, in_buckets(&[(19, 10)])), 0)[0], -9);
 }
 
-/// 7 of 10 paid on time; the rate of a half takes 5 before payment, and payment leaves 3.
+/// 7 of 10 due in bucket 17. At 10 per cent a year 1 is gone in bucket 9; five years' half of the other 9 would be 4,
+/// and payment leaves 2. At 4 per cent nothing is gone before; five years' fifth of 10 is 2, and 1 is left.
 #[test]
 fn prepayment_takes_what_payment_leaves() {
-    let flows = net_flows(loan(1, 5_000, in_buckets(&[(1, 7), (3, 3)]), [0; 19]), 0);
-    assert_eq!(flows[..4], [10, 0, 0, 0]);
-    let flows = net_flows(loan(1, 2_500, in_buckets(&[(1, 7), (3, 3)]), [0; 19]), 0);
-    assert_eq!(flows[..4], [9, 0, 1, 0]);
+    let due = |share| net_flows(loan(1, share, in_buckets(&[(17, 7), (18, 3)]), [0; 19]), 0);
+    let expected = |ninth, last: [i64; 3]| [&[0; 8][..], &[ninth], &[0; 7], &last].concat();
+    assert_eq!(due(1_000).to_vec(), expected(1, [7 + 2, 0, 0]));
+    assert_eq!(due(400).to_vec(), expected(0, [7 + 2, 1, 0]));
 }
 
-/// Outstanding 9 of scheduled 10 in bucket 2: interest 9 · 9 / 10, rounded down.
+/// A year's 5 per cent of 19 is nil in each bucket up to ten years; for bucket 17's five years it is 4 and not five
+/// times nil.
+#[test]
+fn prepayment_is_rounded_once() {
+    let flows = net_flows(loan(1, 500, in_buckets(&[(18, 19)]), [0; 19]), 0);
+    assert_eq!(flows.to_vec(), [&[0; 16][..], &[4, 15, 0]].concat());
+}
+
+/// Outstanding 9 of scheduled 10 in bucket 10: interest 9 · 9 / 10, rounded down.
 #[test]
 fn interest_shrinks_with_what_is_outstanding() {
-    let flows = net_flows(loan(1, 1_000, in_buckets(&[(2, 10)]), in_buckets(&[(1, 3), (2, 9)])), 0);
-    assert_eq!(flows[..3], [1 + 3, 9 + 8, 0]);
+    let flows = net_flows(loan(1, 1_000, in_buckets(&[(10, 10)]), in_buckets(&[(9, 3), (10, 9)])), 0);
+    assert_eq!(flows[7..11], [0, 1 + 3, 9 + 8, 0]);
 }

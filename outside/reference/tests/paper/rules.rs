@@ -58,16 +58,39 @@ fn what_is_not_core_joins_bucket_1() {
     assert_eq!((flows[0], flows[8], flows.iter().sum::<i64>()), (-800, -200, -1_000));
 }
 
-/// The multiples of 10 that each scenario takes of the share, seen in bucket 1.
+/// The multiples of 10 that each scenario takes of the share: of a loan seen in bucket 2, a month wide, of a deposit
+/// in bucket 1.
 #[test]
 fn behaviour_follows_the_scenario() {
-    let loan = || loan(1, 1_000, in_buckets(&[(19, 1_000)]), [0; 19]);
-    let deposit = || term_deposit(1, 1_000, in_buckets(&[(19, 1_000)]));
-    let seen = |record: &dyn Fn() -> Vec<u8>| {
-        (0..7).map(|scenario| net_flows(record(), scenario)[0].abs()).collect::<Vec<_>>()
+    let loan = loan(1, 1_000, in_buckets(&[(19, 12_000)]), [0; 19]);
+    let deposit = term_deposit(1, 1_000, in_buckets(&[(19, 1_000)]));
+    let seen = |record: &[u8], bucket: usize| {
+        (0..7).map(|scenario| net_flows(record.to_vec(), scenario)[bucket - 1].abs()).collect::<Vec<_>>()
     };
-    assert_eq!(seen(&loan), [100, 80, 120, 80, 120, 80, 120]);
-    assert_eq!(seen(&deposit), [100, 120, 80, 80, 120, 120, 80]);
+    assert_eq!(seen(&loan, 2), [100, 80, 120, 80, 120, 80, 120]);
+    assert_eq!(seen(&deposit, 1), [100, 120, 80, 80, 120, 120, 80]);
+}
+
+/// Six per cent a year of what is left: for a month half a per cent, for one night nothing. The last bucket has the
+/// rest.
+#[test]
+fn prepayment_goes_by_the_width_of_the_bucket() {
+    let months = [0, 1, 2, 3, 3, 3, 6, 6, 12, 12, 12, 12, 12, 12, 12, 12, 60, 60];
+    let mut left = 120_000;
+    let flows = net_flows(loan(1, 600, in_buckets(&[(19, 120_000)]), [0; 19]), 0);
+    for (bucket, months) in months.into_iter().enumerate() {
+        assert_eq!(flows[bucket], left * 6 * months / 1_200, "bucket {}", bucket + 1);
+        left -= flows[bucket];
+    }
+    assert_eq!(flows[18], left);
+}
+
+/// A year asks for all of it at the whole rate, and so does the year of scenario 2 from a share of 8,334 on.
+#[test]
+fn a_year_at_the_whole_rate_takes_all() {
+    let left_to = |share, scenario| net_flows(loan(1, share, in_buckets(&[(10, 1_000_000)]), [0; 19]), scenario)[9];
+    assert_eq!([left_to(10_000, 0), left_to(8_334, 2), left_to(10_000, 2)], [0, 0, 0]);
+    assert!(left_to(9_999, 0) > 0 && left_to(8_333, 2) > 0 && left_to(10_000, 1) > 0);
 }
 
 #[test]

@@ -50,17 +50,18 @@ fn scheduled_amounts_of_a_loan_count_by_themselves() {
     assert_eq!(refused(&[flat_curve(1, 0), with(101)]), Some((14, 84)));
 }
 
-/// Scheduled 500 + 100; prepaid at once in scenarios 2, 4 and 6 alone (share 9,000 times 12 passes 100,000), so
-/// interest is left in the base and in scenarios 1, 3 and 5, most of it in these three.
+/// Scheduled 500 + 100 in bucket 10; all prepaid before it in scenarios 2, 4 and 6 alone (share 9,000 times 12 passes
+/// 100,000, and bucket 9 is a year), so interest is left in the base, 100 · 6 / 500, and in scenarios 1, 3 and 5,
+/// 100 · 27 / 500.
 #[test]
 fn a_loan_counts_the_flows_of_each_scenario() {
-    let record = || loan(1, 9_000, in_buckets(&[(2, 500)]), in_buckets(&[(2, 100)]));
+    let record = || loan(1, 9_000, in_buckets(&[(10, 500)]), in_buckets(&[(10, 100)]));
     let base: i64 = net_flows(record(), 0).iter().sum();
     let first: i64 = net_flows(record(), 1).iter().sum();
     let second: i64 = net_flows(record(), 2).iter().sum();
-    assert_eq!((base, first, second), (510, 528, 500));
-    assert_eq!(after(single_flow(1, 1, 0, 0, BILLION - 528), record()), None);
-    assert!(after(single_flow(1, 1, 0, 0, BILLION - 527), record()).is_some());
+    assert_eq!((base, first, second), (501, 505, 500));
+    assert_eq!(after(single_flow(1, 1, 0, 0, BILLION - 505), record()), None);
+    assert!(after(single_flow(1, 1, 0, 0, BILLION - 504), record()).is_some());
 }
 
 #[test]

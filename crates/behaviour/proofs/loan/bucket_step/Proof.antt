@@ -9,32 +9,32 @@ paid-requires : tie.Need-paid-requires
 paid-requires c κs = search needs
 
 prepaid-requires : tie.Need-prepaid-requires
-prepaid-requires c κs = (search needs, search needs)
+prepaid-requires c κs = (search needs, search needs, search needs)
 
 interest-requires : tie.Need-interest-requires
 interest-requires c κs =
     let s = c .before .before in
-    ((s .pre .0 .1, s .pre .0 .2, s .pre .0 .3), s .pre .1)
+    ((s .pre .0 .2, s .pre .0 .3, s .pre .0 .4), s .pre .1)
 
 -- payment and prepayment are within the balance
 within : (c : tie.After-interest) → c .before .before .paid .result .0 + c .before .prepaid .result .0 ≤ c .before .before .before .args .outstanding .0
 within c = omega (arith, c .before .before .paid .ensures .0, c .before .prepaid .ensures .1)
 
-add-taken : tie.Need-add-t9
+add-taken : tie.Need-add-t10
 add-taken c =
     let s = c .before .before .before .before .before in
-    record { fits = omega (arith, within (c .before .before), s .pre .0 .2, s .pre .0 .3) }
+    record { fits = omega (arith, within (c .before .before), s .pre .0 .3, s .pre .0 .4) }
 
-add-flow : tie.Need-add-t10
+add-flow : tie.Need-add-t11
 add-flow c =
     let p = c .before .before .before in
     let s = p .before .before .before in
-    record { fits = omega (arith, within p, p .interest .ensures .1, s .pre .0 .1, s .pre .0 .2, s .pre .0 .3) }
+    record { fits = omega (arith, within p, p .interest .ensures .1, s .pre .0 .2, s .pre .0 .3, s .pre .0 .4) }
 
-sub-paid : tie.Need-sub-t12
+sub-paid : tie.Need-sub-t13
 sub-paid c = c .before .before .before .before .before .before .before .paid .ensures .1
 
-sub-left : tie.Need-sub-t13
+sub-left : tie.Need-sub-t14
 sub-left c = omega (arith, within (c .before .before .before .before .before .before))
 
 returns : tie.Need-returns

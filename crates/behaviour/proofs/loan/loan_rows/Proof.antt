@@ -23,21 +23,24 @@ abbrev flows : List ℕ → ℕ → ℕ → ℕ → ℕ
 flows body share n = loanFlow (behaviouralRate threeMultipliers share n) (amountsFrom body 3) (amountsFrom body 79)
 
 abbrev Inv-loop : tie.InvT-loop
-Inv-loop body share rows₀ sums₀ rates principal i₀ rows sums i =
+Inv-loop body share rows₀ sums₀ rates widths principal i₀ rows sums i =
     (i ≤ 3) × (length sums ≡ 3) × Rows 0 (flows body share) buckets 57 i rows × Filled 0 i (λ n. sum (flows body share n) buckets) sums
 
 abbrev μ-loop : tie.MeasureT-loop
-μ-loop body share rows₀ sums₀ rates principal i₀ rows sums i = 3 - i
+μ-loop body share rows₀ sums₀ rates widths principal i₀ rows sums i = 3 - i
 
 rates-of-requires : tie.Need-rates-of-requires Inv-loop μ-loop
 rates-of-requires c κs = search needs
 
+widths-requires : tie.Need-widths-requires Inv-loop μ-loop
+widths-requires c κs = search needs
+
 sum-from-requires : tie.Need-sum-from-requires Inv-loop μ-loop
-sum-from-requires c κs = (search needs, c .before .before .before .before .pre .1 .principals-small)
+sum-from-requires c κs = (search needs, c .before .before .before .before .before .pre .1 .principals-small)
 
 loop-holds : tie.Need-loop-holds Inv-loop μ-loop
 loop-holds c =
-    let s = c .before .before .before .before .before in
+    let s = c .before .before .before .before .before .before in
     (search needs, search needs, rows-none 0 _ _ _ (s .args .rows .now) (s .pre .0 .2), filled-none 0 _ (s .args .sums .now))
 
 mul-rate : tie.Need-mul-rate Inv-loop μ-loop
@@ -51,6 +54,9 @@ mul-from c = search needs
 
 add-to : tie.Need-add-to Inv-loop μ-loop
 add-to c = search needs
+
+lend-widths : tie.Need-slice-aggregate-loan-row Inv-loop μ-loop
+lend-widths c = search needs
 
 mul-loan-row : tie.Need-mul-loan-row Inv-loop μ-loop
 mul-loan-row c = search needs
@@ -66,12 +72,12 @@ part-loan-row-end c = search needs
 
 loan-row-requires : tie.Need-loan-row-requires Inv-loop μ-loop
 loan-row-requires c κs =
-    let s = c .before .before .before .before .before .before .before .before in
-    let at = c .before .before .loop in
+    let s = c .before .before .before .before .before .before .before .before .before .before in
+    let at = c .before .before .before .loop in
     let count : 19 * at .i + 19 - 19 * at .i ≡ 19 = omega arith in
-    let rate = row-at (behaviouralRate threeMultipliers (s .args .share)) 3 (c .before .before .before .before .rates-of .ensures) (at .i) (omega arith) in (
-      (s .pre .0 .0, rw rate (rate-at-most threeMultipliers (s .args .share) (at .i)), rw count (length-section (19 * at .i) 19 (at .rows) (omega (arith, at .inv .2 .long)))),
-      (c .before .before .before .sum-from .ensures .0, s .pre .1),
+    let rate = row-at (behaviouralRate threeMultipliers (s .args .share)) 3 (c .before .before .before .before .before .before .rates-of .ensures) (at .i) (omega arith) in (
+      (s .pre .0 .0, rw rate (rate-at-most threeMultipliers (s .args .share) (at .i)), c .before .before .before .before .before .widths .ensures, rw count (length-section (19 * at .i) 19 (at .rows) (omega (arith, at .inv .2 .long)))),
+      (c .before .before .before .before .sum-from .ensures .0, s .pre .1),
     )
 
 mul-sums : tie.Need-mul-sums Inv-loop μ-loop
@@ -88,12 +94,12 @@ loop-less c = search needs
 
 loop-again : tie.Need-loop-again Inv-loop μ-loop
 loop-again c =
-    let s = c .before .before .before .before .before .before .before .before .before .before .before in
-    let at = c .before .before .before .before .before .loop in
+    let s = c .before .before .before .before .before .before .before .before .before .before .before .before .before in
+    let at = c .before .before .before .before .before .before .loop in
     let row = c .before .before .loan-row .ensures in
     let flow : ℕ → ℕ → ℕ = λ r. loanFlow r (amountsFrom (s .args .body .now) 3) (amountsFrom (s .args .body .now) 79) in
     let count : 19 * at .i + 19 - 19 * at .i ≡ 19 = omega arith in
-    let rate = row-at (behaviouralRate threeMultipliers (s .args .share)) 3 (c .before .before .before .before .before .before .before .rates-of .ensures) (at .i) (omega arith) in
+    let rate = row-at (behaviouralRate threeMultipliers (s .args .share)) 3 (c .before .before .before .before .before .before .before .before .before .rates-of .ensures) (at .i) (omega arith) in
     rw count (
       omega arith,
       search needs,
@@ -102,7 +108,7 @@ loop-again c =
     )
 
 same-length : tie.Need-same-length Inv-loop μ-loop
-same-length c = c .before .loop .inv .2 .long ∙ sym (c .before .before .before .before .before .before .before .pre .0 .2)
+same-length c = c .before .loop .inv .2 .long ∙ sym (c .before .before .before .before .before .before .before .before .pre .0 .2)
 
 same-length-2 : tie.Need-same-length-2 Inv-loop μ-loop
 same-length-2 c = search needs
@@ -119,12 +125,14 @@ loan-rows-spec =
     Inv-loop
     μ-loop
     rates-of-requires
+    widths-requires
     sum-from-requires
     loop-holds
     mul-rate
     array-read-rate
     mul-from
     add-to
+    lend-widths
     mul-loan-row
     sub-loan-row
     part-loan-row-start
