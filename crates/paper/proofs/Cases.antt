@@ -24,20 +24,24 @@ factorAt rate bucket = factor (pos (rate * midpoint (bucket - 1)))
 abbrev only : ℕ → ℕ → List ℕ
 only bucket amount = replicate (bucket - 1) 0 ++ (amount ∷ replicate (19 - bucket) 0)
 
--- share 1,000, principal 1,000 and interest 100 in one bucket: what is paid, prepaid and due as interest in each of the nineteen, and the flow of that one
-abbrev loanIn : ℕ → ℕ → List ℕ
-loanIn bucket scenario =
-    let rate = prepaymentRate 1000 scenario in
-    let principals = only bucket 1000 in
-    let interests = only bucket 100 in
+-- of a loan: what is paid, prepaid and due as interest in each bucket, and the flow
+abbrev loanIn : ℕ → ℕ → List ℕ → List ℕ → List ℕ
+loanIn scenario share principals interests =
+    let rate = prepaymentRate share scenario in
     tabulate (paidAt rate principals) buckets
     ++ tabulate (prepaidAt rate principals) buckets
     ++ tabulate (interestAt rate principals interests) buckets
-    ++ (loanFlow rate principals interests (bucket - 1) ∷ [])
+    ++ tabulate (loanFlow rate principals interests) buckets
 
--- so much paid in that bucket, so much prepaid in each one before it, and so much interest
+-- so much paid in one bucket, so much prepaid in each one before it, and so much interest
 abbrev loanOf : ℕ → ℕ → List ℕ → ℕ → List ℕ
-loanOf bucket last early charge = only bucket last ++ early ++ replicate (20 - bucket) 0 ++ only bucket charge ++ ((last + charge) ∷ [])
+loanOf bucket last early charge =
+    let after : List ℕ = replicate (19 - bucket) 0 in
+    only bucket last ++ early ++ (0 ∷ after) ++ only bucket charge ++ early ++ ((last + charge) ∷ after)
+
+-- amounts in buckets 9, 17 and 18
+abbrev inThree : ℕ → ℕ → ℕ → List ℕ
+inThree ninth next last = replicate 8 0 ++ (ninth ∷ replicate 7 0) ++ (next ∷ last ∷ 0 ∷ [])
 
 -- 1,000 in bucket 6: what scenario 1 puts into bucket 1, and leaves in bucket 6
 abbrev depositIn : ℕ → List ℕ
@@ -54,12 +58,21 @@ table =
       stated = 1 ∷ 2 ∷ 2 ∷ 3 ∷ 18 ∷ 19 ∷ [];
     }
     ∷ record { given = factor (pos 0) ∷ factorAt 40000 19 ∷ factorAt 40000 18 ∷ []; stated = 1000000000 ∷ 367879441 ∷ 496585304 ∷ [] }
-    ∷ record { given = loanIn 9 0; stated = loanOf 9 818 (0 ∷ 8 ∷ 16 ∷ 24 ∷ 23 ∷ 23 ∷ 45 ∷ 43 ∷ []) 81 }
-    ∷ record { given = loanIn 9 1; stated = loanOf 9 853 (0 ∷ 6 ∷ 13 ∷ 19 ∷ 19 ∷ 18 ∷ 37 ∷ 35 ∷ []) 85 }
+    ∷ record { given = loanIn 0 1000 (only 9 1000) (only 9 100); stated = loanOf 9 818 (0 ∷ 8 ∷ 16 ∷ 24 ∷ 23 ∷ 23 ∷ 45 ∷ 43 ∷ []) 81 }
+    ∷ record { given = loanIn 1 1000 (only 9 1000) (only 9 100); stated = loanOf 9 853 (0 ∷ 6 ∷ 13 ∷ 19 ∷ 19 ∷ 18 ∷ 37 ∷ 35 ∷ []) 85 }
     -- due in the last bucket instead: every width, and in buckets 17 and 18 more than a second rounding would leave
     ∷ record {
-      given = loanIn 19 0;
+      given = loanIn 0 1000 (only 19 1000) (only 19 100);
       stated = loanOf 19 89 (0 ∷ 8 ∷ 16 ∷ 24 ∷ 23 ∷ 23 ∷ 45 ∷ 43 ∷ 81 ∷ 73 ∷ 66 ∷ 59 ∷ 53 ∷ 48 ∷ 43 ∷ 39 ∷ 178 ∷ 89 ∷ []) 8;
+    }
+    -- paid on the way: in bucket 9 the rate is on the 663 before payment, in bucket 17 it asks for all 29, and payment leaves 19
+    ∷ record {
+      given = loanIn 0 2000 (inThree 400 10 590) (inThree 40 300 100);
+      stated =
+          inThree 400 10 0
+          ++ (0 ∷ 16 ∷ 32 ∷ 47 ∷ 45 ∷ 43 ∷ 81 ∷ 73 ∷ 132 ∷ 26 ∷ 21 ∷ 16 ∷ 13 ∷ 11 ∷ 8 ∷ 7 ∷ 19 ∷ 0 ∷ 0 ∷ [])
+          ++ inThree 26 14 0
+          ++ (0 ∷ 16 ∷ 32 ∷ 47 ∷ 45 ∷ 43 ∷ 81 ∷ 73 ∷ 558 ∷ 26 ∷ 21 ∷ 16 ∷ 13 ∷ 11 ∷ 8 ∷ 7 ∷ 43 ∷ 0 ∷ 0 ∷ []);
     }
     ∷ record { given = depositIn 6000; stated = 720 ∷ 280 ∷ [] }
     ∷ record { given = depositIn 9000; stated = 1000 ∷ 0 ∷ [] }
