@@ -56,7 +56,7 @@ wholeYear = 1200000
 
 -- the rate is a year's: its part for the bucket's width in months, rounded once, at most what payment leaves
 unfoldable pub prepaid : ℕ → ℕ → ℕ → ℕ → ℕ
-prepaid rate width scheduled outstanding = min (outstanding * rate * width / wholeYear) (outstanding - paid scheduled outstanding)
+prepaid rate months scheduled outstanding = min (outstanding * rate * months / wholeYear) (outstanding - paid scheduled outstanding)
 
 -- nil where scheduled interest is nil
 unfoldable pub interest : ℕ → ℕ → ℕ → ℕ

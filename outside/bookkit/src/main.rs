@@ -37,7 +37,8 @@ The text form has one record to a line. # begins a comment. Fields may come in a
 
 Lists name buckets 1 to 19 (values: scenarios 1 to 6), one by one or first-last; what is not named is nil, and
 nil alone is a list of nothing else. Sides are asset and liability, or sold and bought; a bad side is its number.
-Money is in thousands, rates in millionths, shocks in basis points, shares in hundredths of a per cent.
+Money is in thousands, rates in millionths, shocks in basis points, shares in hundredths of a per cent (a loan's
+prepaid in a year, a term deposit's withdrawn once).
 raw holds bytes that make no whole record. make judges no numbers, as long as they fit: show does.
 ";
 
