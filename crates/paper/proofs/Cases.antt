@@ -1,4 +1,5 @@
--- The numbers to hold to that are marked P: one table with a single claim. A row is what the definitions give, and what the paper states.
+-- The numbers to hold to that are marked P, those of kind 5 worked by hand for its yearly rate (02, request 3), and two loans more: one table with a
+-- single claim. A row is what the definitions give, and what is stated.
 use Prim.Native.Nat.{ℕ, _+_, _*_, _-_}
 use mathlib.Core.Path.{_≡_, refl}
 use mathlib.Core.List.{List, [], _∷_, _++_, map}
@@ -60,7 +61,7 @@ table =
     ∷ record { given = factor (pos 0) ∷ factorAt 40000 19 ∷ factorAt 40000 18 ∷ []; stated = 1000000000 ∷ 367879441 ∷ 496585304 ∷ [] }
     ∷ record { given = loanIn 0 1000 (only 9 1000) (only 9 100); stated = loanOf 9 818 (0 ∷ 8 ∷ 16 ∷ 24 ∷ 23 ∷ 23 ∷ 45 ∷ 43 ∷ []) 81 }
     ∷ record { given = loanIn 1 1000 (only 9 1000) (only 9 100); stated = loanOf 9 853 (0 ∷ 6 ∷ 13 ∷ 19 ∷ 19 ∷ 18 ∷ 37 ∷ 35 ∷ []) 85 }
-    -- due in the last bucket instead: every width, and in buckets 17 and 18 more than a second rounding would leave
+    -- due in the last bucket instead: the widths up to bucket 18, and in bucket 17 178, where a second rounding would give 175
     ∷ record {
       given = loanIn 0 1000 (only 19 1000) (only 19 100);
       stated = loanOf 19 89 (0 ∷ 8 ∷ 16 ∷ 24 ∷ 23 ∷ 23 ∷ 45 ∷ 43 ∷ 81 ∷ 73 ∷ 66 ∷ 59 ∷ 53 ∷ 48 ∷ 43 ∷ 39 ∷ 178 ∷ 89 ∷ []) 8;

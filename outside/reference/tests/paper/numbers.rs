@@ -1,4 +1,4 @@
-//! Every number of "Numbers to hold to".
+//! Every number of "Numbers to hold to"; those of kind 5 worked by hand for request 3 of 02.
 
 use crate::hand::*;
 use reference::{bucket_index, computed_factor, exponent, irreport};
