@@ -1,18 +1,25 @@
 -- Plus or minus by the side; one amount in a bucket of every scenario; a sum of two small integers fits.
 use Prim.Native.Nat.{ℕ, suc, _+_, _*_, _-_, _%_, _≤_, _<_}
 use mathlib.Core.Bool.{Bool, true, false}
-use mathlib.Core.Path.{_≡_, refl, sym}
+use mathlib.Core.List.{List}
+use mathlib.Core.Logic.{⊎-elim}
+use mathlib.Core.Path.{_≡_, refl, sym, ap, _∙_}
 use native.Mathlib.Omega.{arith}
 use lib.IntN.{ℤ, pos, negℤ, natAbs, _+ℤ_, _-ℤ_}
+use lib.ListN.{length, getD, List·getD-eq-default}
 use mir.Syntax.{w64}
 use mir.Val.{SFits}
 use borrow.Author.Tests.{eq-eqb, ne-eqb}
 use Rattle.laws.specs.Tests.{if_then_else_, _is_}
+use Rattle.laws.specs.Lists.{tabulate}
+use Rattle.laws.proofs.Lists.{tabulate-length, tabulate-at}
+use Rattle.laws.proofs.Tests.{lt-or-ge}
 use Rattle.laws.proofs.Integers.{zero-sub, abs-add, abs-sub}
 use Rattle.laws.proofs.Widths.{sfits-abs}
 use Rattle.paper.specs.Ladder.{buckets}
 use Rattle.paper.specs.Flow.{sided}
-use Rattle.posting.specs.Parts.{column, trillion}
+use Rattle.paper.proofs.Magnitudes.{abs-sided}
+use Rattle.posting.specs.Parts.{AtMost, AtMostℤ, column, trillion}
 
 pub sided-plus : (side : ℕ) (z : ℤ) → side ≡ 1 → sided side z ≡ z
 unfolding sided
@@ -29,6 +36,21 @@ sided-nil side = by (side is 1)
     by : (b : Bool) → (if b then pos 0 else negℤ (pos 0)) ≡ pos 0
     by true = refl
     by false = refl
+
+-- a row of one side: its length, a flow of it, a bound of its flows
+
+module _ (side : ℕ) (row : List ℕ) {flows : List ℤ} (e : flows ≡ tabulate (λ k. sided side (pos (getD row k 0))) buckets) where
+  pub sided-long : length flows ≡ buckets
+  sided-long = ap length e ∙ tabulate-length (λ k. sided side (pos (getD row k 0))) buckets
+
+  pub sided-at : (k : ℕ) → k < buckets → getD flows k (pos 0) ≡ sided side (pos (getD row k 0))
+  sided-at k o = ap (λ (l : List ℤ). getD l k (pos 0)) e ∙ tabulate-at (λ k. sided side (pos (getD row k 0))) buckets k (pos 0) o
+
+  pub sided-small : AtMost trillion row → AtMostℤ trillion flows
+  sided-small small k =
+      ⊎-elim (λ (o : k < buckets). rw (sided-at k o, abs-sided side (pos (getD row k 0))) (small k))
+      (λ (o : buckets ≤ k). rw (List·getD-eq-default flows (pos 0) {n = k} (rw sided-long o)) (omega arith))
+      (lt-or-ge k buckets)
 
 -- ---- sums that fit 64 bits
 

@@ -1,10 +1,11 @@
 // The writers of a section: a scenario's nineteen cells start at 19 times the scenario.
-ghost use Prim.Native.Nat.{ℕ, _+_, _*_, _<_, _≤_};
+ghost use Prim.Native.Nat.{ℕ, _+_, _*_, _%_, _<_, _≤_};
 ghost use mathlib.Core.Path.{_≡_};
 ghost use lib.ListN.{length, getD, set};
 ghost use lib.IntN.{pos, natAbs, _+ℤ_};
 ghost use mir.Syntax.{w64};
 ghost use mir.Val.{SFits};
+ghost use Rattle.laws.specs.Lists.{tabulate};
 ghost use Rattle.paper.specs.Flow.{scenarios, sided};
 ghost use Rattle.paper.specs.Ladder.{buckets};
 ghost use Rattle.paper.specs.Ledger.{sectionSize};
@@ -52,6 +53,52 @@ pub fn post(section: &mut [i64], bucket: usize, amount: SignedThousands)
     while i < SCENARIOS {
         let at = BUCKETS * i + (bucket - 1);
         add_into(section, at, amount);
+        i += 1;
+    }
+}
+
+// Nineteen amounts, all of one side, as flows.
+fn sided_row(side: u32, row: &[u64], flows: &mut [i64])
+    requires { ⌜ (length (now row) ≡ buckets) × (length (now flows) ≡ buckets) ⌝ }
+    requires { ⌜ AtMost trillion (now row) ⌝ }
+    ensures { λ _. ⌜ now (flows .exit) ≡ tabulate (λ k. sided side (pos (getD (now (row .entry)) k 0))) buckets ⌝ }
+{
+    let mut k: usize = 0;
+    while k < BUCKETS {
+        let flow = sided_amount(side, Thousands(row[k]));
+        let cell = flow.0;
+        flows[k] = cell;
+        k += 1;
+    }
+}
+
+fn add_cells(cells: &mut [i64], flows: &[i64])
+    requires { ⌜ length (now flows) ≡ length (now cells) ⌝ }
+    requires { ⌜ AtMostℤ trillion (now cells) ⌝ }
+    requires { ⌜ AtMostℤ trillion (now flows) ⌝ }
+    ensures { λ _. ⌜ now (cells .exit) ≡ plusℤ (now (cells .entry)) (λ j. getD (now (flows .entry)) j (pos 0)) ⌝ }
+{
+    let mut j = 0;
+    while j < cells.len() {
+        add_into(cells, j, SignedThousands(flows[j]));
+        j += 1;
+    }
+}
+
+// The same row in every scenario. Its signs are set once, in an array of this function's own: no cell lies in it, so the compiler adds two at a time.
+pub fn add_row(section: &mut [i64], side: u32, row: &[u64])
+    requires { ⌜ (length (now section) ≡ sectionSize) × (length (now row) ≡ buckets) ⌝ }
+    requires { ⌜ AtMostℤ trillion (now section) ⌝ }
+    requires { ⌜ AtMost trillion (now row) ⌝ }
+    ensures { λ _. ⌜ now (section .exit) ≡ plusℤ (now (section .entry)) (λ j. sided side (pos (getD (now (row .entry)) (j % buckets) 0))) ⌝ }
+{
+    let mut flows = [0i64; BUCKETS];
+    sided_row(side, row, &mut flows);
+    let mut i: usize = 0;
+    while i < SCENARIOS {
+        let from = BUCKETS * i;
+        let to = from + BUCKETS;
+        add_cells(&mut section[from..to], &flows);
         i += 1;
     }
 }

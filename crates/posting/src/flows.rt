@@ -7,6 +7,7 @@ ghost use Rattle.paper.specs.Ladder.{buckets};
 ghost use Rattle.paper.specs.Flow.{scenarios};
 ghost use Rattle.posting.specs.Parts.{AtMost, FlowParts, RowParts, Enters, rowFlow, rowSum, trillion};
 use crate::Taken;
+use crate::cells::add_row;
 use crate::cells::add_rows;
 use crate::over_limit;
 use crate::room::admits;
@@ -61,7 +62,10 @@ pub fn enter_row(
     requires { ⌜ FlowParts (now section) (now sizes) ⌝ }
     ensures { λ r. ⌜ Enters (λ j. getD (now (row .entry)) (j % buckets) 0) side (λ i. size .0) section sizes r ⌝ }
 {
-    let which = [0usize; SCENARIOS];
-    let sums = [size.0];
-    enter_rows(row, &which, side, &sums, section, sizes)
+    let more = [size.0; SCENARIOS];
+    if admits(sizes, &more) {
+        add_row(section, side, row);
+        return Taken::Done;
+    }
+    over_limit()
 }

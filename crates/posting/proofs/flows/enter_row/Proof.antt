@@ -1,59 +1,46 @@
--- One row, which every scenario has.
-use Prim.Native.Nat.{ℕ, _+_, _*_, _/_, _%_, _≤_}
-use mathlib.Core.List.{[], _∷_}
-use mathlib.Core.Path.{_≡_, refl, ap}
+-- One row, which every scenario has: it is tested as one size, and entered.
+use Prim.Native.Nat.{_≤_}
+use mathlib.Core.Bool.{true, false}
+use mathlib.Core.Path.{refl, sym}
 use native.Mathlib.Omega.{arith}
-use lib.ListN.{getD, replicate}
 use borrow.Author.Needs.{needs}
 use Rattle.posting.specs.Parts.{trillion}
 use Rattle.posting.proofs.Loops.{replicate-all}
-use Rattle.posting.proofs.Limit.{entered-ext}
+use Rattle.posting.proofs.Limit.{entered, same-size}
 use Rattle.posting.proofs.flows.enter_row.Statement.{statement}
 use Rattle.posting.proofs.flows.enter_row.Tie as tie
 
-first : (i : ℕ) → _≡_ {A = ℕ} (getD (replicate 7 0) i 0) 0
-first = replicate-all 0 (λ (n : ℕ). _≡_ {A = ℕ} n 0) 7 0 refl refl
+admits-requires : tie.Need-admits-requires
+admits-requires c κs =
+    let s = c .before .before .before .before in
+    (sym (s .pre .1 .sizes-long), (s .pre .1 .sizes-small, replicate-all 0 (λ n. n ≤ trillion) 7 (s .args .size .0) (s .pre .0 .2) (omega arith)))
 
-slice-aggregate-enter-rows : tie.Need-slice-aggregate-enter-rows
-slice-aggregate-enter-rows c = search needs
-
-slice-aggregate-enter-rows-2 : tie.Need-slice-aggregate-enter-rows-2
-slice-aggregate-enter-rows-2 c = search needs
-
-enter-rows-requires : tie.Need-enter-rows-requires
-enter-rows-requires c κs =
-    let s = c .before .before .before .before .before .before in (
-      record {
-        rows-long = s .pre .0 .0;
-        which-long = refl;
-        which-in = λ i l. omega (arith, first i);
-        rows-small = s .pre .0 .1;
-        sums-small = replicate-all 0 (λ n. n ≤ trillion) 1 (s .args .size .0) (s .pre .0 .2) (omega arith);
-      },
-      s .pre .1,
-    )
-
-same-length : tie.Need-same-length
-same-length c = search needs
-
-same-length-2 : tie.Need-same-length-2
-same-length-2 c = search needs
+add-row-requires : tie.Need-add-row-requires
+add-row-requires c κs =
+    let s = c .before .before .before .before .before .before .before .before .before in
+    ((s .pre .1 .cells-long, s .pre .0 .0), ((λ j. omega (arith, s .pre .1 .cells-small j)), s .pre .0 .1))
 
 returns : tie.Need-returns
 returns c =
-    let s = c .before .before .before .before .before .before .before .before .before .before in
-    entered-ext (s .args .side) _ _ _ _
-    (λ j. let bucket : 19 * getD (replicate 7 0) (j / 19) 0 + j % 19 ≡ j % 19 = omega (arith, first (j / 19)) in ap (λ (k : ℕ). getD (s .args .row .now) k 0) bucket)
-    (λ i. ap (λ (k : ℕ). getD (s .args .size .0 ∷ []) k 0) (first i))
-    (c .before .before .before .enter-rows .ensures)
+    let s = c .before .before .before .before .before .before .before .before .before .before .before in
+    entered _ (s .args .side) _ true (s .pre .1 .sizes-long) (same-size (s .args .size .0)) (c .before .before .before .before .before .before .admits .ensures) (c .before .before .before .if1 .taken) (c .before .add-row .ensures)
+
+returns-2 : tie.Need-returns-2
+returns-2 c =
+    let s = c .before .before .before .before .before .before .before .before .before in
+    rw (c .over-limit .ensures)
+    (entered _ (s .args .side) _ false (s .pre .1 .sizes-long) (same-size (s .args .size .0)) (c .before .before .before .before .admits .ensures) (c .before .if1 .left) refl)
 
 pub enter-row-spec : {M : Type 1} → statement M
 enter-row-spec =
     tie.close
     (tie.spec
-    slice-aggregate-enter-rows
-    slice-aggregate-enter-rows-2
-    enter-rows-requires
-    same-length
-    same-length-2
-    returns)
+    (λ c. search needs)
+    admits-requires
+    add-row-requires
+    (λ c. search needs)
+    (λ c. search needs)
+    returns
+    (λ c κs. search needs)
+    (λ c. search needs)
+    returns-2)
