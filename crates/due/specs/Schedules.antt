@@ -13,9 +13,10 @@ startOf s = record { months = s .months; days = s .days }
 abbrev pub scheduled : Schedule → Term → ℕ → ℕ → ℕ
 scheduled s term amount k = couponsDue (startOf s) (s .period) (s .count) (s .coupon .0) k + due term amount k
 
--- what was decoded: some period, no coupon past month 600
+-- what was decoded: a period of at most a year, no coupon past month 600
 pub record Regular (s : Schedule) : Type 0 where
   pub some : 1 ≤ s .period
+  pub year : s .period ≤ 12
   pub last : s .months + s .period * s .count ≤ 600
   pub small : s .coupon .0 ≤ billion
 

@@ -1,6 +1,6 @@
 // Coupons at regular periods after a start, and one amount due at a term; the same in every scenario. How many coupons are due by the end of a
-// bucket is a division, so there is no pass over the coupons.
-ghost use Prim.Native.Nat.{_+_, _*_, _-_, _/_, _%_, _≤_, min};
+// bucket is worked out from the end, so there is no pass over the coupons.
+ghost use Prim.Native.Nat.{ℕ, _+_, _*_, _-_, _/_, _%_, _≤_, min};
 ghost use mathlib.Core.Path.{_≡_};
 ghost use lib.ListN.{length};
 ghost use Rattle.laws.specs.Lists.{tabulate};
@@ -53,18 +53,32 @@ fn month_seen(months: u32, days: u32) -> u32
     if days == 0 { months } else { months + 1 }
 }
 
-fn due_by(end: u32, start: u32, period: u32, count: u32) -> u32
-    requires { ⌜ 1 ≤ period ⌝ }
-    ensures { λ r. ⌜ r ≡ min count ((end - start) / period) ⌝ }
+// Of 65,536, rounded up: so many months times it, over 65,536, are the whole periods in them, and a bucket needs no division of its own.
+fn period_share(period: u32) -> u32
+    requires { ⌜ (1 ≤ period) × (period ≤ 12) ⌝ }
+    ensures { λ r. ⌜ (r ≤ 65536) × ((months : ℕ) → months ≤ 601 → months * r / 65536 ≡ months / period) ⌝ }
 {
-    if end < start {
-        return 0;
-    }
-    let periods = (end - start) / period;
-    if count < periods {
-        return count;
-    }
-    periods
+    (65535 + period) / period
+}
+
+// None before the start.
+fn months_since(start: u32, end: u32) -> u32
+    ensures { λ r. ⌜ r ≡ end - start ⌝ }
+{
+    if end < start { 0 } else { end - start }
+}
+
+fn at_most(most: u32, periods: u32) -> u32
+    ensures { λ r. ⌜ r ≡ min most periods ⌝ }
+{
+    if most < periods { most } else { periods }
+}
+
+fn due_by(end: u32, start: u32, share: u32, count: u32) -> u32
+    requires { ⌜ (end ≤ 601) × (share ≤ 65536) ⌝ }
+    ensures { λ r. ⌜ r ≡ min count ((end - start) * share / 65536) ⌝ }
+{
+    at_most(count, months_since(start, end) * share / 65536)
 }
 
 fn coupon_row(coupons: Schedule, row: &mut [u64])
@@ -73,11 +87,12 @@ fn coupon_row(coupons: Schedule, row: &mut [u64])
     ensures { λ _. ⌜ now (row .exit) ≡ tabulate (couponsDue (startOf coupons) (coupons .period) (coupons .count) (coupons .coupon .0)) buckets ⌝ }
 {
     let start = month_seen(coupons.months, coupons.days);
+    let share = period_share(coupons.period);
     let ends = MONTH_ENDS;
     let mut before: u32 = 0;
     let mut k: usize = 0;
     while k < BUCKETS {
-        let by = due_by(ends[k], start, coupons.period, coupons.count);
+        let by = due_by(ends[k], start, share, coupons.count);
         row[k] = ((by - before) as u64) * coupons.coupon.0;
         before = by;
         k += 1;

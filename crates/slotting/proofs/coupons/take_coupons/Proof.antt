@@ -48,7 +48,7 @@ unfolding SoundFlows
 slot-schedule-requires c κs =
     let w = c .before .before .before .before .before in
     let p = sound w in
-    ((record { some = period-range _ (p .1) .from; last = p .2 .last; small = p .3 .to }, omega (arith, p .4 .to)), w .before .before .before .before .before .before .pre .1)
+    ((record { some = period-range _ (p .1) .from; year = period-range _ (p .1) .to; last = p .2 .last; small = p .3 .to }, omega (arith, p .4 .to)), w .before .before .before .before .before .before .pre .1)
 
 returns : tie.Need-returns
 unfolding couponsRead

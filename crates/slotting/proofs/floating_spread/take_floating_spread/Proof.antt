@@ -51,7 +51,7 @@ unfolding SoundFlows
 slot-schedule-requires c κs =
     let w = c .before .before .before .before .before in
     let p = sound w in
-    ((record { some = period-range _ (p .4) .from; last = p .5 .last; small = p .6 .to }, omega (arith, p .2 .to, p .3 .to)), w .before .before .before .before .before .before .pre .1)
+    ((record { some = period-range _ (p .4) .from; year = period-range _ (p .4) .to; last = p .5 .last; small = p .6 .to }, omega (arith, p .2 .to, p .3 .to)), w .before .before .before .before .before .before .pre .1)
 
 returns : tie.Need-returns
 unfolding floatingSpreadRead
