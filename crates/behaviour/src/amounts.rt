@@ -7,7 +7,7 @@ ghost use Rattle.paper.specs.Scales.{billion};
 ghost use Rattle.paper.specs.Ladder.{buckets};
 ghost use Rattle.fields.specs.Answers.{amountsFrom};
 ghost use Rattle.posting.specs.Parts.{AtMost};
-use fields::bytes::four_at;
+use fields::bytes::money_at;
 use paper::BUCKETS;
 use scales::Thousands;
 
@@ -17,7 +17,7 @@ pub fn amount_of(body: &[u8], from: usize, k: usize) -> Thousands
     requires { ⌜ AtMost billion (amountsFrom (now body) from) ⌝ }
     ensures { λ r. ⌜ (r .0 ≡ getD (amountsFrom (now (body .entry)) from) k 0) × (r .0 ≤ billion) ⌝ }
 {
-    Thousands(four_at(body, from + 4 * k) as u64)
+    Thousands(money_at(body, from + 4 * k))
 }
 
 pub fn sum_from(body: &[u8], from: usize) -> Thousands

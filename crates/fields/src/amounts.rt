@@ -5,7 +5,7 @@ ghost use lib.ListN.{length};
 ghost use Rattle.paper.specs.Ladder.{buckets};
 ghost use Rattle.paper.specs.Fields.{amountAt, each};
 ghost use Rattle.fields.specs.Answers.{amountFieldOf, amountFaultIn, amountsOf, amountsFaultIn};
-use crate::bytes::four_at;
+use crate::bytes::money_at;
 use paper::BUCKETS;
 use paper::Fault;
 use paper::Refusal;
@@ -54,14 +54,14 @@ pub fn amount_at(body: &[u8], at: usize) -> Amount
     requires { ⌜ at + 4 ≤ length (now body) ⌝ }
     ensures { λ r. ⌜ r ≡ amountFieldOf (amountAt (now (body .entry)) at) ⌝ }
 {
-    let word = four_at(body, at);
-    if 1000000000 < word {
+    let amount = money_at(body, at);
+    if 1000000000 < amount {
         return Amount::Bad(Fault {
             cause: Refusal::TooLarge,
             place: at + 1,
         });
     }
-    Amount::Value(Thousands(word as u64))
+    Amount::Value(Thousands(amount))
 }
 
 pub fn amounts_at(body: &[u8], from: usize) -> Amounts

@@ -35,6 +35,23 @@ pub fn four_at(body: &[u8], at: usize) -> u32
         + widened(body[at + 3])
 }
 
+fn wide(x: u8) -> u64
+    ensures { λ r. ⌜ (r ≡ x) × (r < 256) ⌝ }
+{
+    x as u64
+}
+
+// Four bytes at the width of money. An amount is looked at several times, and is one load and no more as long as all of them make the same number of its bytes.
+pub fn money_at(body: &[u8], at: usize) -> u64
+    requires { ⌜ at + 4 ≤ length (now body) ⌝ }
+    ensures { λ r. ⌜ (r ≡ four (now (body .entry)) at) × (r < 4294967296) ⌝ }
+{
+    wide(body[at]) * 16777216
+        + wide(body[at + 1]) * 65536
+        + wide(body[at + 2]) * 256
+        + wide(body[at + 3])
+}
+
 // Two's complement.
 fn signed_of(word: u32) -> i64
     ensures { λ r. ⌜ r ≡ signed word ⌝ }

@@ -7,7 +7,7 @@ ghost use Rattle.laws.specs.Tests.{_below_};
 ghost use Rattle.paper.specs.Scales.{billion};
 ghost use Rattle.paper.specs.Behaviour.{coreCap, averageCap, weighedCore};
 ghost use Rattle.fields.specs.Answers.{amountsFrom};
-use fields::bytes::four_at;
+use fields::bytes::money_at;
 use ladder::midpoints;
 use paper::BUCKETS;
 use scales::Thousands;
@@ -48,7 +48,7 @@ pub fn weighed_core(body: &[u8]) -> u64
     let mut weighed: u64 = 0;
     let mut k: usize = 0;
     while k < BUCKETS {
-        weighed += (four_at(body, 6 + 4 * k) as u64) * (middles[k] as u64);
+        weighed += money_at(body, 6 + 4 * k) * (middles[k] as u64);
         k += 1;
     }
     weighed

@@ -7,7 +7,7 @@ ghost use Rattle.laws.specs.Sums.{sumOf};
 ghost use Rattle.paper.specs.Ladder.{buckets};
 ghost use Rattle.paper.specs.TurnedDown.{interestAlone};
 ghost use Rattle.fields.specs.Answers.{amountsFrom};
-use fields::bytes::four_at;
+use fields::bytes::money_at;
 use paper::BUCKETS;
 use scales::Thousands;
 
@@ -30,11 +30,11 @@ pub fn interest_alone(body: &[u8], principal: Thousands) -> usize
     let mut scheduled = principal;
     let mut k: usize = 0;
     while k < BUCKETS {
-        let interest = Thousands(four_at(body, 79 + 4 * k) as u64);
+        let interest = Thousands(money_at(body, 79 + 4 * k));
         if alone(interest, scheduled) {
             return k;
         }
-        scheduled.0 -= four_at(body, 3 + 4 * k) as u64;
+        scheduled.0 -= money_at(body, 3 + 4 * k);
         k += 1;
     }
     BUCKETS

@@ -16,11 +16,11 @@ abbrev μ-loop : tie.MeasureT-loop
 μ-loop body middles weighed₀ k₀ weighed k = 19 - k
 
 -- one bucket more
-more : (c : tie.After-four-at Inv-loop μ-loop)
+more : (c : tie.After-money-at Inv-loop μ-loop)
     → Weighed (c .before .before .before .before .before .args .body .now) (c .before .before .loop .k + 1)
-    (c .before .before .loop .weighed + c .four-at .result * getD (c .before .before .before .midpoints .result) (c .before .before .loop .k) 0)
+    (c .before .before .loop .weighed + c .money-at .result * getD (c .before .before .before .midpoints .result) (c .before .before .loop .k) 0)
 more c =
-    weighed-more _ _ _ _ _ (c .before .before .loop .inv .1) (c .four-at .ensures) (omega arith)
+    weighed-more _ _ _ _ _ (c .before .before .loop .inv .1) (c .money-at .ensures .0) (c .money-at .ensures .1)
     (ap (λ (l : List ℕ). getD l (c .before .before .loop .k) 0) (c .before .before .before .midpoints .ensures))
 
 loop-holds : tie.Need-loop-holds Inv-loop μ-loop
@@ -50,7 +50,7 @@ weighed-core-spec =
     Inv-loop
     μ-loop
     (λ c κs. search needs) loop-holds
-    (λ c. search needs) (λ c. search needs) (λ c κs. search needs) (λ c. search needs) (λ c. search needs) (λ c. search needs)
+    (λ c. search needs) (λ c. search needs) (λ c κs. search needs) (λ c. search needs) (λ c. search needs)
     (λ c. search needs) mul-weighed-2
     add-weighed
     (λ c. search needs) (λ c. search needs) loop-again

@@ -22,21 +22,21 @@ loop-holds c =
 returns : tie.Need-returns Inv-loop μ-loop
 returns c =
     let i = c .before .before .before in
-    let test = sym (c .before .alone .ensures ∙ ap (λ (x : ℕ). 0 below x && i .before .loop .scheduled .0 is 0) (c .before .before .four-at .ensures)) ∙ c .if1 .taken in
+    let test = sym (c .before .alone .ensures ∙ ap (λ (x : ℕ). 0 below x && i .before .loop .scheduled .0 is 0) (c .before .before .money-at .ensures .0)) ∙ c .if1 .taken in
     sym (passed-stops _ _ _ (i .loop-test .taken) (i .before .loop .inv .1) test)
 
 sub-scheduled : tie.Need-sub-scheduled Inv-loop μ-loop
 sub-scheduled c =
     let i = c .before .before .before .before .before in
-    rw (c .before .four-at2 .ensures) (passed-covers _ _ _ (i .loop-test .taken) (i .before .loop .inv .1))
+    rw (c .before .money-at2 .ensures .0) (passed-covers _ _ _ (i .loop-test .taken) (i .before .loop .inv .1))
 
 loop-again : tie.Need-loop-again Inv-loop μ-loop
 loop-again c =
     let p = c .before in
     let t = p .before .before in
     let i = t .before .before in
-    let test = sym (t .alone .ensures ∙ ap (λ (x : ℕ). 0 below x && i .before .loop .scheduled .0 is 0) (t .before .four-at .ensures)) ∙ p .before .if1 .left in
-    (omega arith, rw (p .four-at2 .ensures) (passed-more _ _ _ (i .loop-test .taken) (i .before .loop .inv .1) test))
+    let test = sym (t .alone .ensures ∙ ap (λ (x : ℕ). 0 below x && i .before .loop .scheduled .0 is 0) (t .before .money-at .ensures .0)) ∙ p .before .if1 .left in
+    (omega arith, rw (p .money-at2 .ensures .0) (passed-more _ _ _ (i .loop-test .taken) (i .before .loop .inv .1) test))
 
 returns-2 : tie.Need-returns-2 Inv-loop μ-loop
 returns-2 c =
@@ -50,7 +50,7 @@ interest-alone-spec =
     Inv-loop
     μ-loop
     loop-holds
-    (λ c. search needs) (λ c. search needs) (λ c κs. search needs) (λ c. search needs) (λ c κs. search needs) returns
-    (λ c. search needs) (λ c. search needs) (λ c κs. search needs) (λ c. search needs) sub-scheduled
+    (λ c. search needs) (λ c. search needs) (λ c κs. search needs) (λ c κs. search needs) returns
+    (λ c. search needs) (λ c. search needs) (λ c κs. search needs) sub-scheduled
     (λ c. search needs) (λ c. search needs) loop-again
     returns-2)
