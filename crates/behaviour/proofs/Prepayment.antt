@@ -22,6 +22,12 @@ not-alone scheduled remaining t h =
     let none : remaining ≡ 0 → ⊥ = eqb-false remaining 0 (ap (λ (b : Bool). b && remaining is 0) (sym (lt-ltb 0 scheduled h)) ∙ t) in
     omega arith
 
+-- what is scheduled after bucket k + 1
+pub rest-is : (principals : List ℕ) (k : ℕ) {principal remaining : ℕ} → principal ≡ getD principals k 0 → remaining ≡ scheduledAt principals k
+    → (principal ≤ remaining) × (remaining - principal ≡ scheduledAt principals (suc k))
+unfolding scheduledAt
+rest-is principals k p r = (omega (arith, sum-drop principals k), omega (arith, sum-drop principals k))
+
 module _ (rate : ℕ) (principals interests : List ℕ) where
   -- ---- bounds
 
@@ -63,10 +69,6 @@ module _ (rate : ℕ) (principals interests : List ℕ) where
         → left ≡ outstandingAt rate principals (suc k)
     unfolding outstandingAt
     left-is left e = e ∙ rw (b .months-are, b .principal-is, b .outstanding-is)
-
-    pub rest-is : (principal ≤ remaining) × (remaining - principal ≡ scheduledAt principals (suc k))
-    unfolding scheduledAt
-    rest-is = (omega (arith, b .principal-is, b .remaining-is, sum-drop principals k), omega (arith, b .principal-is, b .remaining-is, sum-drop principals k))
 
     pub balance-within : (outstanding ≤ remaining) × (remaining ≤ sumOf principals)
     balance-within =

@@ -1,17 +1,17 @@
 // Kind 5, an asset: in each bucket what is paid, prepaid and due as interest; the balance is carried from bucket to bucket.
-ghost use Prim.Native.Nat.{_+_, _*_, _-_, _≤_};
+ghost use Prim.Native.Nat.{_+_, _*_, _-_, _<_, _≤_};
 ghost use mathlib.Core.Bool.{false, _&&_};
 ghost use mathlib.Core.Path.{_≡_};
 ghost use lib.ListN.{length};
 ghost use Rattle.laws.specs.Tests.{_is_, _below_};
-ghost use Rattle.laws.specs.Sums.{sum, sumOf};
-ghost use Rattle.laws.specs.Lists.{tabulate};
 ghost use Rattle.paper.specs.Scales.{billion};
 ghost use Rattle.paper.specs.Ladder as Ladder;
 ghost use Rattle.paper.specs.Ladder.{buckets};
-ghost use Rattle.paper.specs.Behaviour.{wholeRate, paid, prepaid, interest, loanFlow};
+ghost use Rattle.paper.specs.Behaviour.{wholeRate, paid, prepaid, interest, scheduledAt};
 ghost use Rattle.fields.specs.Answers.{amountsFrom};
+ghost use Rattle.posting.specs.Parts.{AtMost};
 ghost use Rattle.behaviour.specs.Rows.{SoundSchedule, loanRows, loanSums};
+ghost use Rattle.behaviour.specs.Columns.{LoanReached};
 use crate::amounts::amount_of;
 use crate::amounts::sum_from;
 use crate::rates::RATES;
@@ -83,41 +83,34 @@ fn bucket_step(
     }
 }
 
-// One rate's nineteen flows, and their sum.
-fn loan_row(
+// One bucket at each of the three rates: its flows and their sums, and the balances after it. No rate waits for another's, so the processor works on three balances at a time.
+fn loan_column(
     body: &[u8],
-    rate: u64,
-    widths: &[u32],
-    principal: Thousands,
-    row: &mut [u64],
-) -> Thousands
-    requires { ⌜ (length (now body) ≡ 155) × (rate ≤ wholeRate) × (now widths ≡ Ladder.widths) × (length (now row) ≡ buckets) ⌝ }
-    requires { ⌜ (principal .0 ≡ sumOf (amountsFrom (now body) 3)) × SoundSchedule (amountsFrom (now body) 3) (amountsFrom (now body) 79) ⌝ }
-    ensures { λ r. ⌜ now (row .exit) ≡ tabulate (loanFlow rate (amountsFrom (now (body .entry)) 3) (amountsFrom (now (body .entry)) 79)) buckets ⌝ }
-    ensures { λ r. ⌜ r .0 ≡ sum (loanFlow rate (amountsFrom (now (body .entry)) 3) (amountsFrom (now (body .entry)) 79)) buckets ⌝ }
+    rates: &[u64],
+    width: u64,
+    remaining: Thousands,
+    k: usize,
+    balances: &mut [u64],
+    rows: &mut [u64],
+    sums: &mut [u64],
+)
+    requires { ⌜ (length (now body) ≡ 155) × (k < buckets) × (width ≡ Ladder.width k) × (length (now rates) ≡ 3) × AtMost wholeRate (now rates) ⌝ }
+    requires { ⌜ (remaining .0 ≡ scheduledAt (amountsFrom (now body) 3) k) × SoundSchedule (amountsFrom (now body) 3) (amountsFrom (now body) 79) ⌝ }
+    requires { ⌜ LoanReached (now rates) (now body) (λ _. k) (now balances) (now rows) (now sums) ⌝ }
+    ensures { λ _. ⌜ LoanReached (now (rates .entry)) (now (body .entry)) (λ _. k + 1) (now (balances .exit)) (now (rows .exit)) (now (sums .exit)) ⌝ }
 {
-    let mut outstanding = principal;
-    let mut remaining = principal;
-    let mut total = Thousands(0);
-    let mut k: usize = 0;
-    while k < BUCKETS {
-        let scheduled = amount_of(body, 3, k);
-        let charge = amount_of(body, 79, k);
-        let step = bucket_step(
-            rate,
-            widths[k] as u64,
-            scheduled,
-            charge,
-            outstanding,
-            remaining,
-        );
-        row[k] = step.flow.0;
-        total.0 += step.flow.0;
-        outstanding = step.left;
-        remaining.0 -= scheduled.0;
-        k += 1;
+    let scheduled = amount_of(body, 3, k);
+    let charge = amount_of(body, 79, k);
+    let mut i: usize = 0;
+    while i < RATES {
+        let outstanding = Thousands(balances[i]);
+        let step = bucket_step(rates[i], width, scheduled, charge, outstanding, remaining);
+        let at = BUCKETS * i + k;
+        rows[at] = step.flow.0;
+        sums[i] += step.flow.0;
+        balances[i] = step.left.0;
+        i += 1;
     }
-    total
 }
 
 // The rows of the three rates, and the sum of each.
@@ -129,13 +122,16 @@ pub fn loan_rows(body: &[u8], share: u32, rows: &mut [u64], sums: &mut [u64])
 {
     let rates = rates_of(share);
     let widths = widths();
-    let principal = sum_from(body, 3);
-    let mut i: usize = 0;
-    while i < RATES {
-        let rate = rates[i];
-        let from = BUCKETS * i;
-        let to = from + BUCKETS;
-        sums[i] = loan_row(body, rate, &widths, principal, &mut rows[from..to]).0;
-        i += 1;
+    let mut remaining = sum_from(body, 3);
+    let mut balances = [remaining.0; RATES];
+    sums[0] = 0;
+    sums[1] = 0;
+    sums[2] = 0;
+    let mut k: usize = 0;
+    while k < BUCKETS {
+        let width = widths[k] as u64;
+        loan_column(body, &rates, width, remaining, k, &mut balances, rows, sums);
+        remaining.0 -= amount_of(body, 3, k).0;
+        k += 1;
     }
 }

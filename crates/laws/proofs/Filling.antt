@@ -114,7 +114,14 @@ module _ {A : Type 0} where
   pub fill-value-all : (n : ℕ) (v : A) (l : List A) → n ≡ length l → replicate n v ++ drop n l ≡ replicate (length l) v
   fill-value-all n v l e = rw e (put-all (replicate (length l) v) l (length l) refl)
 
-  -- a room of four, by four stores
+  -- a room of three, and of four, by so many stores
+  pub three-stored : (room : List A) (a b c : A) → length room ≡ 3 → set (set (set room 0 a) 1 b) 2 c ≡ a ∷ b ∷ c ∷ []
+  three-stored [] a b c e = absurd (omega arith)
+  three-stored (x ∷ []) a b c e = absurd (omega arith)
+  three-stored (x ∷ y ∷ []) a b c e = absurd (omega arith)
+  three-stored (x ∷ y ∷ z ∷ []) a b c e = refl
+  three-stored (x ∷ y ∷ z ∷ v ∷ room) a b c e = absurd (omega arith)
+
   pub four-stored : (room : List A) (a b c d : A) → length room ≡ 4 → set (set (set (set room 0 a) 1 b) 2 c) 3 d ≡ a ∷ b ∷ c ∷ d ∷ []
   four-stored [] a b c d e = absurd (omega arith)
   four-stored (w ∷ []) a b c d e = absurd (omega arith)

@@ -1,122 +1,107 @@
--- The rows of the rates passed are filled, and their sums.
-use Prim.Native.Nat.{ℕ, _+_, _*_, _-_, _≤_}
+-- The buckets passed, at all three rates, and what is scheduled after them.
+use Prim.Native.Nat.{ℕ, suc, _+_, _*_, _-_, _/_, _%_, _<_, _≤_}
 use mathlib.Core.List.{List}
-use mathlib.Core.Path.{_≡_, sym, ap, _∙_}
+use mathlib.Core.Path.{_≡_, refl, sym, ap, _∙_}
+use native.Mathlib.Numerals.{add-one}
 use native.Mathlib.Omega.{arith}
-use lib.ListN.{length}
+use lib.ListN.{length, getD, set, length-set}
 use borrow.Author.Needs.{needs}
 use Rattle.laws.specs.Sums.{sum}
-use Rattle.laws.specs.Lists.{tabulate}
-use Rattle.laws.proofs.Sections.{length-section}
-use Rattle.laws.proofs.Filling.{Filled, filled-none, filled-next, filled-all, Rows, rows-none, rows-next, rows-all}
-use Rattle.paper.specs.Ladder.{buckets}
-use Rattle.paper.specs.Behaviour.{behaviouralRate, loanFlow}
+use Rattle.laws.proofs.Filling.{three-stored}
+use Rattle.laws.proofs.Lists.{tabulate-is, tabulate-ext}
+use Rattle.paper.specs.Ladder.{widths}
+use Rattle.paper.specs.Behaviour.{wholeRate, behaviouralRate, outstandingAt, scheduledAt, loanFlow}
 use Rattle.paper.proofs.Deposits.{rate-at-most}
+use Rattle.paper.proofs.Widths.{width-most}
 use Rattle.fields.specs.Answers.{amountsFrom}
+use Rattle.posting.proofs.Loops.{row-long, row-small, row-at}
 use Rattle.behaviour.specs.Rows.{threeMultipliers}
-use Rattle.posting.proofs.Loops.{row-at}
+use Rattle.behaviour.specs.Columns.{LoanReached}
+use Rattle.behaviour.proofs.Columns.{kept-none, columns-none, columns-all}
+use Rattle.behaviour.proofs.Prepayment.{rest-is}
 use Rattle.behaviour.proofs.loan.loan_rows.Statement.{statement}
 use Rattle.behaviour.proofs.loan.loan_rows.Tie as tie
 
--- the flows at one of the three rates
-abbrev flows : List ℕ → ℕ → ℕ → ℕ → ℕ
-flows body share n = loanFlow (behaviouralRate threeMultipliers share n) (amountsFrom body 3) (amountsFrom body 79)
-
 abbrev Inv-loop : tie.InvT-loop
-Inv-loop body share rows₀ sums₀ rates widths principal i₀ rows sums i =
-    (i ≤ 3) × (length sums ≡ 3) × Rows 0 (flows body share) buckets 57 i rows × Filled 0 i (λ n. sum (flows body share n) buckets) sums
+Inv-loop body share rows₀ sums₀ rates widths remaining₀ balances₀ k₀ rows sums remaining balances k =
+    (k ≤ 19) × LoanReached rates body (λ _. k) balances rows sums × (remaining .0 ≡ scheduledAt (amountsFrom body 3) k)
 
 abbrev μ-loop : tie.MeasureT-loop
-μ-loop body share rows₀ sums₀ rates widths principal i₀ rows sums i = 3 - i
+μ-loop body share rows₀ sums₀ rates widths remaining₀ balances₀ k₀ rows sums remaining balances k = 19 - k
 
-rates-of-requires : tie.Need-rates-of-requires Inv-loop μ-loop
-rates-of-requires c κs = search needs
-
-widths-requires : tie.Need-widths-requires Inv-loop μ-loop
-widths-requires c κs = search needs
+abbrev start : tie.After-sum-from Inv-loop μ-loop → tie.Start Inv-loop μ-loop
+start c = c .before .before .before .before .before .before
 
 sum-from-requires : tie.Need-sum-from-requires Inv-loop μ-loop
 sum-from-requires c κs = (search needs, c .before .before .before .before .before .pre .1 .principals-small)
 
 loop-holds : tie.Need-loop-holds Inv-loop μ-loop
+unfolding sum outstandingAt scheduledAt
 loop-holds c =
-    let s = c .before .before .before .before .before .before in
-    (search needs, search needs, rows-none 0 _ _ _ (s .args .rows .now) (s .pre .0 .2), filled-none 0 _ (s .args .sums .now))
-
-mul-rate : tie.Need-mul-rate Inv-loop μ-loop
-mul-rate c = search needs
-
-array-read-rate : tie.Need-array-read-rate Inv-loop μ-loop
-array-read-rate c = search needs
-
-mul-from : tie.Need-mul-from Inv-loop μ-loop
-mul-from c = search needs
-
-add-to : tie.Need-add-to Inv-loop μ-loop
-add-to c = search needs
-
-lend-widths : tie.Need-slice-aggregate-loan-row Inv-loop μ-loop
-lend-widths c = search needs
-
-mul-loan-row : tie.Need-mul-loan-row Inv-loop μ-loop
-mul-loan-row c = search needs
-
-sub-loan-row : tie.Need-sub-loan-row Inv-loop μ-loop
-sub-loan-row c = search needs
-
-part-loan-row-start : tie.Need-part-loan-row-start Inv-loop μ-loop
-part-loan-row-start c = search needs
-
-part-loan-row-end : tie.Need-part-loan-row-end Inv-loop μ-loop
-part-loan-row-end c = search needs
-
-loan-row-requires : tie.Need-loan-row-requires Inv-loop μ-loop
-loan-row-requires c κs =
-    let s = c .before .before .before .before .before .before .before .before .before .before in
-    let at = c .before .before .before .loop in
-    let count : 19 * at .i + 19 - 19 * at .i ≡ 19 = omega arith in
-    let rate = row-at (behaviouralRate threeMultipliers (s .args .share)) 3 (c .before .before .before .before .before .before .rates-of .ensures) (at .i) (omega arith) in (
-      (s .pre .0 .0, rw rate (rate-at-most threeMultipliers (s .args .share) (at .i)), c .before .before .before .before .before .widths .ensures, rw count (length-section (19 * at .i) 19 (at .rows) (omega (arith, at .inv .2 .long)))),
-      (c .before .before .before .before .sum-from .ensures .0, s .pre .1),
+    let s = start c in (
+      omega arith,
+      record {
+        flows = columns-none (s .pre .0 .2);
+        added = rw (three-stored (s .args .sums .now) 0 0 0 (s .pre .0 .3)) (kept-none 0 (λ r. refl));
+        left = kept-none (c .sum-from .result .0) (λ r. sym (c .sum-from .ensures .0));
+      },
+      c .sum-from .ensures .0,
     )
 
-mul-sums : tie.Need-mul-sums Inv-loop μ-loop
-mul-sums c = search needs
+cast-width : tie.Need-cast-width Inv-loop μ-loop
+cast-width c =
+    let l = c .before in
+    record { fits = omega (arith, ap (λ (w : List ℕ). getD w (l .loop .k) 0) (l .before .before .widths .ensures), width-most (l .loop .k)) }
 
-slice-write-sums : tie.Need-slice-write-sums Inv-loop μ-loop
-slice-write-sums c = search needs
+loan-column-requires : tie.Need-loan-column-requires Inv-loop μ-loop
+loan-column-requires c κs =
+    let l = c .before .before .before .before .before in
+    let s = start (l .before) in
+    let rates = l .before .before .before .rates-of .ensures in (
+      (
+        s .pre .0 .0,
+        c .before .before .before .before .loop-test .taken,
+        ap (λ (w : List ℕ). getD w (l .loop .k) 0) (l .before .before .widths .ensures),
+        row-long (behaviouralRate threeMultipliers (s .args .share)) 3 rates,
+        row-small (behaviouralRate threeMultipliers (s .args .share)) 3 wholeRate rates (λ r _. rate-at-most threeMultipliers (s .args .share) r),
+      ),
+      ((l .loop .inv .2, s .pre .1), l .loop .inv .1),
+    )
 
-add-i : tie.Need-add-i Inv-loop μ-loop
-add-i c = search needs
+abbrev turn : tie.After-amount-of Inv-loop μ-loop → tie.At-loop Inv-loop μ-loop
+turn c = c .before .before .before .before .before .before .before .before .before .before .before .before
 
-loop-less : tie.Need-loop-less Inv-loop μ-loop
-loop-less c = search needs
+amount-of-requires : tie.Need-amount-of-requires Inv-loop μ-loop
+amount-of-requires c κs =
+    let l = c .before .before .before .before .before .before .before .before .before .before .before in
+    let s = start (l .before) in
+    ((omega (arith, s .pre .0 .0), c .before .before .before .before .before .before .before .before .before .before .loop-test .taken), s .pre .1 .principals-small)
+
+rest : (c : tie.After-amount-of Inv-loop μ-loop)
+    → (c .amount-of .result .0 ≤ turn c .loop .remaining .0)
+    × (turn c .loop .remaining .0 - c .amount-of .result .0 ≡ scheduledAt (amountsFrom (start (turn c .before) .args .body .now) 3) (suc (turn c .loop .k)))
+rest c = rest-is (amountsFrom (start (turn c .before) .args .body .now) 3) (turn c .loop .k) (c .amount-of .ensures .0) (turn c .loop .inv .2)
 
 loop-again : tie.Need-loop-again Inv-loop μ-loop
 loop-again c =
-    let s = c .before .before .before .before .before .before .before .before .before .before .before .before .before in
-    let at = c .before .before .before .before .before .before .loop in
-    let row = c .before .before .loan-row .ensures in
-    let flow : ℕ → ℕ → ℕ = λ r. loanFlow r (amountsFrom (s .args .body .now) 3) (amountsFrom (s .args .body .now) 79) in
-    let count : 19 * at .i + 19 - 19 * at .i ≡ 19 = omega arith in
-    let rate = row-at (behaviouralRate threeMultipliers (s .args .share)) 3 (c .before .before .before .before .before .before .before .before .before .rates-of .ensures) (at .i) (omega arith) in
-    rw count (
-      omega arith,
-      search needs,
-      rows-next 0 _ _ _ (at .i) (at .rows) _ (omega arith) (row .0 ∙ ap (λ (r : ℕ). tabulate (flow r) buckets) rate) (at .inv .2),
-      filled-next 0 _ (at .sums) (at .i) _ (at .inv .3) (row .1 ∙ ap (λ (r : ℕ). sum (flow r) buckets) rate) (search needs),
-    )
+    let p = c .before .before in
+    (omega (arith, c .before .before .before .before .before .before .before .before .before .before .before .before .before .loop-test .taken), p .before .before .before .before .before .before .loan-column .ensures, rw add-one (rest p .1))
 
-same-length : tie.Need-same-length Inv-loop μ-loop
-same-length c = c .before .loop .inv .2 .long ∙ sym (c .before .before .before .before .before .before .before .before .pre .0 .2)
-
-same-length-2 : tie.Need-same-length-2 Inv-loop μ-loop
-same-length-2 c = search needs
+-- one of the three rates
+rate-at : (c : tie.After-loop Inv-loop μ-loop) (r : ℕ) → r < 3
+    → getD (c .before .before .before .before .rates-of .result) r 0 ≡ behaviouralRate threeMultipliers (start (c .before .before) .args .share) r
+rate-at c = row-at (behaviouralRate threeMultipliers (start (c .before .before) .args .share)) 3 (c .before .before .before .before .rates-of .ensures)
 
 returns : tie.Need-returns Inv-loop μ-loop
 returns c =
-    let at = c .before .loop in
-    (rows-all 0 _ _ _ (at .i) (at .rows) (omega arith) (at .inv .2), filled-all 0 _ (at .sums) 3 (at .inv .1) (λ i l. at .inv .3 i (omega arith)))
+    let l = c .before in
+    let body = start (l .before) .args .body .now in
+    let flow : ℕ → ℕ → ℕ = λ rate. loanFlow rate (amountsFrom body 3) (amountsFrom body 79) in
+    let last : l .loop .k ≡ 19 = omega (arith, l .loop .inv .0) in
+    let reached = rw last at (l .loop .inv .1) in (
+      columns-all (reached .flows) ∙ tabulate-ext _ _ 57 (λ j o. ap (λ (rate : ℕ). flow rate (j % 19)) (rate-at c (j / 19) (omega arith))),
+      tabulate-is 0 (l .loop .sums) _ 3 (reached .added .long) (λ r o. reached .added .at r o ∙ ap (λ (rate : ℕ). sum (flow rate) 19) (rate-at c r o)),
+    )
 
 pub loan-rows-spec : {M : Type 1} → statement M
 loan-rows-spec =
@@ -124,25 +109,24 @@ loan-rows-spec =
     (tie.spec
     Inv-loop
     μ-loop
-    rates-of-requires
-    widths-requires
+    (λ c κs. search needs)
+    (λ c κs. search needs)
     sum-from-requires
+    (λ c. search needs)
+    (λ c. search needs)
+    (λ c. search needs)
     loop-holds
-    mul-rate
-    array-read-rate
-    mul-from
-    add-to
-    lend-widths
-    mul-loan-row
-    sub-loan-row
-    part-loan-row-start
-    part-loan-row-end
-    loan-row-requires
-    mul-sums
-    slice-write-sums
-    add-i
-    loop-less
+    (λ c. search needs)
+    (λ c. search needs)
+    cast-width
+    (λ c. search needs)
+    (λ c. search needs)
+    loan-column-requires
+    amount-of-requires
+    (λ c. rest (c .before .before) .0)
+    (λ c. search needs)
+    (λ c. search needs)
     loop-again
-    same-length
-    same-length-2
+    (λ c. c .before .loop .inv .1 .flows .long ∙ sym (start (c .before .before) .pre .0 .2))
+    (λ c. c .before .loop .inv .1 .added .long ∙ sym (start (c .before .before) .pre .0 .3))
     returns)

@@ -1,94 +1,97 @@
--- The rows of the rates passed are filled.
-use Prim.Native.Nat.{ℕ, _+_, _*_, _-_, _≤_}
+-- The buckets passed, at all three rates; then bucket 1 with all that moved.
+use Prim.Native.Nat.{ℕ, _+_, _*_, _-_, _/_, _%_, _<_, _≤_}
 use mathlib.Core.List.{List}
-use mathlib.Core.Path.{_≡_, sym, ap, _∙_}
+use mathlib.Core.Path.{_≡_, refl, sym, ap, _∙_}
 use native.Mathlib.Omega.{arith}
+use lib.ListN.{length, getD}
 use borrow.Author.Needs.{needs}
-use Rattle.laws.specs.Lists.{tabulate}
-use Rattle.laws.proofs.Sections.{length-section}
-use Rattle.laws.proofs.Filling.{Rows, rows-none, rows-next, rows-all}
-use Rattle.paper.specs.Ladder.{buckets}
-use Rattle.paper.specs.Behaviour.{behaviouralRate, termDepositFlow}
+use Rattle.laws.specs.Sums.{sum}
+use Rattle.laws.specs.Lists.{tabulate, joined}
+use Rattle.laws.proofs.Joins.{joined-length}
+use Rattle.laws.proofs.Lists.{tabulate-ext}
+use Rattle.paper.specs.Behaviour.{wholeRate, behaviouralRate, termDepositFlow}
 use Rattle.paper.proofs.Deposits.{rate-at-most}
 use Rattle.fields.specs.Answers.{amountsFrom}
+use Rattle.posting.proofs.Loops.{row-long, row-small, row-at}
 use Rattle.behaviour.specs.Rows.{threeMultipliers}
-use Rattle.posting.proofs.Loops.{row-at}
+use Rattle.behaviour.specs.Columns.{DepositReached}
+use Rattle.behaviour.proofs.AmountRange.{amounts-few}
+use Rattle.behaviour.proofs.Columns.{kept-none, kept-small, columns-none, columns-small}
+use Rattle.behaviour.proofs.DepositRows.{moved-few, withdrawn-here}
 use Rattle.behaviour.proofs.term_deposit.withdrawn_rows.Statement.{statement}
 use Rattle.behaviour.proofs.term_deposit.withdrawn_rows.Tie as tie
 
--- the flows at one of the three rates
-abbrev flows : List ℕ → ℕ → ℕ → ℕ → ℕ
-flows body share n = termDepositFlow (behaviouralRate threeMultipliers share n) (amountsFrom body 3)
-
 abbrev Inv-loop : tie.InvT-loop
-Inv-loop body share rows₀ rates i₀ rows i = (i ≤ 3) × Rows 0 (flows body share) buckets 57 i rows
+Inv-loop body share rows₀ rates early₀ k₀ rows early k = (k ≤ 19) × DepositReached rates body (λ _. k) rows early
 
 abbrev μ-loop : tie.MeasureT-loop
-μ-loop body share rows₀ rates i₀ rows i = 3 - i
+μ-loop body share rows₀ rates early₀ k₀ rows early k = 19 - k
 
-rates-of-requires : tie.Need-rates-of-requires Inv-loop μ-loop
-rates-of-requires c κs = search needs
+abbrev start : tie.At-loop Inv-loop μ-loop → tie.Start Inv-loop μ-loop
+start l = l .before .before .before .before
+
+module _ (l : tie.At-loop Inv-loop μ-loop) where
+  abbrev rate : ℕ → ℕ
+  rate = behaviouralRate threeMultipliers (start l .args .share)
+
+  abbrev amounts : List ℕ
+  amounts = amountsFrom (start l .args .body .now) 3
+
+  rates-small : (r : ℕ) → getD (l .before .rates-of .result) r 0 ≤ wholeRate
+  rates-small = row-small rate 3 wholeRate (l .before .rates-of .ensures) (λ r _. rate-at-most threeMultipliers (start l .args .share) r)
+
+  -- all nineteen
+  reached : 19 ≤ l .loop .k → DepositReached (l .before .rates-of .result) (start l .args .body .now) (λ _. 19) (l .loop .rows) (l .loop .early)
+  reached all = let last : l .loop .k ≡ 19 = omega (arith, l .loop .inv .0) in rw last at (l .loop .inv .1)
 
 loop-holds : tie.Need-loop-holds Inv-loop μ-loop
-loop-holds c =
-    (search needs, rows-none 0 _ _ _ (c .before .before .before .args .rows .now) (c .before .before .before .pre .0 .2))
+unfolding sum
+loop-holds c = (omega arith, record { stays = columns-none (c .before .before .before .pre .0 .2); moves = kept-none 0 (λ r. refl) })
 
-mul-rate : tie.Need-mul-rate Inv-loop μ-loop
-mul-rate c = search needs
-
-array-read-rate : tie.Need-array-read-rate Inv-loop μ-loop
-array-read-rate c = search needs
-
-mul-from : tie.Need-mul-from Inv-loop μ-loop
-mul-from c = search needs
-
-add-to : tie.Need-add-to Inv-loop μ-loop
-add-to c = search needs
-
-mul-withdrawn : tie.Need-mul-withdrawn Inv-loop μ-loop
-mul-withdrawn c = search needs
-
-sub-withdrawn : tie.Need-sub-withdrawn Inv-loop μ-loop
-sub-withdrawn c = search needs
-
-part-withdrawn-start : tie.Need-part-withdrawn-start Inv-loop μ-loop
-part-withdrawn-start c = search needs
-
-part-withdrawn-end : tie.Need-part-withdrawn-end Inv-loop μ-loop
-part-withdrawn-end c = search needs
-
-withdrawn-requires : tie.Need-withdrawn-requires Inv-loop μ-loop
-withdrawn-requires c κs =
-    let s = c .before .before .before .before .before .before in
-    let at = c .before .before .loop in
-    let count : 19 * at .i + 19 - 19 * at .i ≡ 19 = omega arith in
-    let rate = row-at (behaviouralRate threeMultipliers (s .args .share)) 3 (c .before .before .before .rates-of .ensures) (at .i) (omega arith) in (
-      (s .pre .0 .0, rw rate (rate-at-most threeMultipliers (s .args .share) (at .i)), rw count (length-section (19 * at .i) 19 (at .rows) (omega (arith, at .inv .1 .long)))),
-      s .pre .1,
+withdrawn-column-requires : tie.Need-withdrawn-column-requires Inv-loop μ-loop
+withdrawn-column-requires c κs =
+    let l = c .before .before .before .before in
+    let s = start l in (
+      (s .pre .0 .0, c .before .before .before .loop-test .taken, row-long (rate l) 3 (l .before .rates-of .ensures), rates-small l),
+      (s .pre .1, l .loop .inv .1),
     )
-
-add-i : tie.Need-add-i Inv-loop μ-loop
-add-i c = search needs
-
-loop-less : tie.Need-loop-less Inv-loop μ-loop
-loop-less c = search needs
 
 loop-again : tie.Need-loop-again Inv-loop μ-loop
 loop-again c =
-    let s = c .before .before .before .before .before .before .before .before .before in
-    let at = c .before .before .before .before .before .loop in
-    let count : 19 * at .i + 19 - 19 * at .i ≡ 19 = omega arith in
-    let rate = row-at (behaviouralRate threeMultipliers (s .args .share)) 3 (c .before .before .before .before .before .before .rates-of .ensures) (at .i) (omega arith) in
-    let filled = c .before .before .withdrawn .ensures ∙ ap (λ (r : ℕ). tabulate (termDepositFlow r (amountsFrom (s .args .body .now) 3)) buckets) rate in
-    rw count (omega arith, rows-next 0 _ _ _ (at .i) (at .rows) _ (omega arith) filled (at .inv .1))
+    (omega (arith, c .before .before .before .before .before .before .before .loop-test .taken), c .before .before .before .withdrawn-column .ensures)
+
+raise-first-requires : tie.Need-raise-first-requires Inv-loop μ-loop
+raise-first-requires c κs =
+    let l = c .before .before .before in
+    let all = reached l (c .before .before .loop-test .left) in
+    let small = start l .pre .1 in (
+      (all .stays .long, all .moves .long),
+      (
+        columns-small (λ r j. omega (arith, small j)) (all .stays),
+        kept-small (λ r _. omega (arith, moved-few (getD (l .before .rates-of .result) r 0) (amounts l) 19 (rates-small l r) small)) (all .moves),
+      ),
+    )
 
 same-length : tie.Need-same-length Inv-loop μ-loop
-same-length c = c .before .loop .inv .1 .long ∙ sym (c .before .before .before .before .before .pre .0 .2)
+same-length c =
+    let p = c .before .before in
+    let l = p .before .before .before .before in
+    ap length (p .raise-first .ensures) ∙ joined-length _+_ 0 (l .loop .rows) _ ∙ l .loop .inv .1 .stays .long ∙ sym (start l .pre .0 .2)
 
 returns : tie.Need-returns Inv-loop μ-loop
+unfolding joined
 returns c =
-    let at = c .before .loop in
-    rows-all 0 _ _ _ (at .i) (at .rows) (omega arith) (at .inv .1)
+    let p = c .before .before in
+    let l = p .before .before .before .before in
+    let all = reached l (p .before .before .before .loop-test .left) in
+    p .raise-first .ensures
+    ∙ ap (tabulate _) (all .stays .long)
+    ∙ tabulate-ext _ _ 57 (λ j o.
+    let place : 19 * (j / 19) + j % 19 ≡ j = omega arith in
+    let row : j / 19 < 3 = omega arith in
+    withdrawn-here (getD (l .before .rates-of .result) (j / 19) 0) (amounts l) (j % 19) (amounts-few (start l .args .body .now) 3)
+    (ap (λ (n : ℕ). getD (l .loop .rows) n 0) (sym place) ∙ all .stays .at (j / 19) (j % 19) row (omega arith)) (all .moves .at (j / 19) row)
+    ∙ ap (λ (r : ℕ). termDepositFlow r (amounts l) (j % 19)) (row-at (rate l) 3 (l .before .rates-of .ensures) (j / 19) row))
 
 pub withdrawn-rows-spec : {M : Type 1} → statement M
 withdrawn-rows-spec =
@@ -96,19 +99,15 @@ withdrawn-rows-spec =
     (tie.spec
     Inv-loop
     μ-loop
-    rates-of-requires
+    (λ c κs. search needs)
     loop-holds
-    mul-rate
-    array-read-rate
-    mul-from
-    add-to
-    mul-withdrawn
-    sub-withdrawn
-    part-withdrawn-start
-    part-withdrawn-end
-    withdrawn-requires
-    add-i
-    loop-less
+    (λ c. search needs)
+    (λ c. search needs)
+    withdrawn-column-requires
+    (λ c. search needs)
+    (λ c. search needs)
     loop-again
+    (λ c. search needs)
+    raise-first-requires
     same-length
     returns)
