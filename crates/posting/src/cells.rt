@@ -103,22 +103,7 @@ pub fn add_row(section: &mut [i64], side: u32, row: &[u64])
     }
 }
 
-// Flows cell by cell, all of one side.
-pub fn add_flows(cells: &mut [i64], side: u32, flows: &[u64])
-    requires { ⌜ length (now flows) ≡ length (now cells) ⌝ }
-    requires { ⌜ AtMostℤ trillion (now cells) ⌝ }
-    requires { ⌜ AtMost trillion (now flows) ⌝ }
-    ensures { λ _. ⌜ now (cells .exit) ≡ plusℤ (now (cells .entry)) (λ j. sided side (pos (getD (now (flows .entry)) j 0))) ⌝ }
-{
-    let mut j = 0;
-    while j < cells.len() {
-        let flow = sided_amount(side, Thousands(flows[j]));
-        add_into(cells, j, flow);
-        j += 1;
-    }
-}
-
-// Rows of nineteen flows: each scenario has the row that the table names.
+// Rows of nineteen flows: each scenario has the row that the table names, signed first for the same reason.
 pub fn add_rows(section: &mut [i64], side: u32, rows: &[u64], which: &[usize])
     requires { ⌜ (length (now section) ≡ sectionSize) × (length (now which) ≡ scenarios) ⌝ }
     requires { ⌜ AtMostℤ trillion (now section) ⌝ }
@@ -132,7 +117,9 @@ pub fn add_rows(section: &mut [i64], side: u32, rows: &[u64], which: &[usize])
         let to = from + BUCKETS;
         let first = BUCKETS * which[i];
         let last = first + BUCKETS;
-        add_flows(&mut section[from..to], side, &rows[first..last]);
+        let mut flows = [0i64; BUCKETS];
+        sided_row(side, &rows[first..last], &mut flows);
+        add_cells(&mut section[from..to], &flows);
         i += 1;
     }
 }

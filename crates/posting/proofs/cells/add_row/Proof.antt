@@ -1,15 +1,13 @@
 -- The scenarios passed have the row; the cells of the others are as they were.
 use Prim.Native.Nat.{ℕ, _+_, _*_, _-_, _%_, _≤_}
-use mathlib.Core.Path.{_≡_, sym, ap, _∙_}
+use mathlib.Core.Path.{_≡_, ap, _∙_}
 use native.Mathlib.Omega.{arith}
-use lib.IntN.{pos, natAbs, _+ℤ_, +ℤ-idr}
+use lib.IntN.{pos, _+ℤ_, +ℤ-idr}
 use lib.ListN.{length, getD}
 use borrow.Author.Needs.{needs}
-use Rattle.laws.proofs.Sections.{length-section}
 use Rattle.paper.specs.Flow.{sided}
-use Rattle.posting.specs.Parts.{trillion}
-use Rattle.posting.proofs.Loops.{Joining, joining-none, joining-long, part-all, joining-part, joining-done}
-use Rattle.posting.proofs.Sides.{sided-long, sided-at, sided-small}
+use Rattle.posting.proofs.Loops.{Joining, joining-none, joining-long, joining-done}
+use Rattle.posting.proofs.Sides.{row-fits, row-added}
 use Rattle.posting.proofs.cells.add_row.Statement.{statement}
 use Rattle.posting.proofs.cells.add_row.Tie as tie
 
@@ -29,10 +27,7 @@ add-cells-requires c κs =
     let at = c .before .before .before .loop in
     let signed = c .before .before .before .before .before .sided-row .ensures in
     let count : 19 * at .i + 19 - 19 * at .i ≡ 19 = omega arith in
-    rw count (
-      sided-long (s .args .side) (s .args .row .now) signed ∙ sym (length-section (19 * at .i) 19 (at .section) (omega (arith, at .inv .1))),
-      (part-all +ℤ-idr (at .inv .2) 19 (omega (arith, s .pre .0 .0)) (λ z. natAbs z ≤ trillion) (omega arith) (s .pre .1 .0), sided-small (s .args .side) (s .args .row .now) signed (s .pre .1 .1)),
-    )
+    rw count (row-fits (s .args .side) (s .args .row .now) signed (at .i) (omega (arith, s .pre .0 .0)) (at .inv .2) (s .pre .1 .0) (s .pre .1 .1))
 
 loop-again : tie.Need-loop-again Inv-loop μ-loop
 loop-again c =
@@ -42,12 +37,9 @@ loop-again c =
     let row = s .args .row .now in
     let signed = c .before .before .before .before .before .before .before .sided-row .ensures in
     let count : 19 * at .i + 19 - 19 * at .i ≡ 19 = omega arith in
-    let more : 19 * at .i + 19 ≡ 19 * (at .i + 1) = omega arith in
-    let room : 19 * at .i + 19 ≤ length (s .args .section .now) = omega (arith, s .pre .0 .0) in
-    let added = rw count at (c .before .add-cells .ensures) in
-    let next = joining-part +ℤ-idr (at .inv .2) 19 room _ added
-    (λ j l. let bucket : j ≡ (19 * at .i + j) % 19 = omega arith in sided-at side row signed j l ∙ ap (λ (k : ℕ). sided side (pos (getD row k 0))) bucket) in
-    rw count (omega arith, joining-long +ℤ-idr next ∙ s .pre .0 .0, rw more at next)
+    let next = row-added side row signed (at .i) (omega (arith, s .pre .0 .0)) (at .inv .2) (rw count at (c .before .add-cells .ensures))
+    (λ k l. let bucket : k ≡ (19 * at .i + k) % 19 = omega arith in ap (λ (j : ℕ). sided side (pos (getD row j 0))) bucket) in
+    rw count (omega arith, joining-long +ℤ-idr next ∙ s .pre .0 .0, next)
 
 returns : tie.Need-returns Inv-loop μ-loop
 returns c = joining-done +ℤ-idr (c .before .loop .inv .2) (omega (arith, c .before .before .before .before .before .before .pre .0 .0))

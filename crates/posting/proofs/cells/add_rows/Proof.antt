@@ -1,15 +1,17 @@
 -- The scenarios passed have their rows; the cells of the others are as they were.
-use Prim.Native.Nat.{ℕ, _+_, _*_, _-_, _/_, _%_, _≤_}
-use mathlib.Core.Path.{_≡_, sym, ap, ap₂, _∙_}
+use Prim.Native.Nat.{ℕ, _+_, _*_, _-_, _/_, _%_, _≤_, _<_}
+use mathlib.Core.List.{List}
+use mathlib.Core.Path.{_≡_, ap, ap₂, _∙_}
 use native.Mathlib.Omega.{arith}
-use lib.IntN.{pos, natAbs, _+ℤ_, +ℤ-idr}
+use lib.IntN.{pos, _+ℤ_, +ℤ-idr}
 use lib.ListN.{length, getD}
 use borrow.Author.Needs.{needs}
 use Rattle.laws.specs.Lists.{section}
 use Rattle.laws.proofs.Sections.{length-section, section-at, section-all}
 use Rattle.paper.specs.Flow.{sided}
-use Rattle.posting.specs.Parts.{rowFlow, trillion}
-use Rattle.posting.proofs.Loops.{Joining, joining-none, joining-long, part-all, joining-part, joining-done}
+use Rattle.posting.specs.Parts.{rowFlow, AtMost, trillion}
+use Rattle.posting.proofs.Loops.{Joining, joining-none, joining-long, joining-done}
+use Rattle.posting.proofs.Sides.{row-fits, row-added}
 use Rattle.posting.proofs.cells.add_rows.Statement.{statement}
 use Rattle.posting.proofs.cells.add_rows.Tie as tie
 
@@ -23,96 +25,63 @@ abbrev μ-loop : tie.MeasureT-loop
 loop-holds : tie.Need-loop-holds Inv-loop μ-loop
 loop-holds c = (search needs, search needs, joining-none +ℤ-idr _ _)
 
-mul-from : tie.Need-mul-from Inv-loop μ-loop
-mul-from c = search needs
+-- the row that a scenario has
+module _ (rows which : List ℕ) (i : ℕ) where
+  abbrev first : ℕ
+  first = 19 * getD which i 0
 
-add-to : tie.Need-add-to Inv-loop μ-loop
-add-to c = search needs
+  abbrev own : List ℕ
+  own = section first (first + 19 - first) rows
 
-mul-first : tie.Need-mul-first Inv-loop μ-loop
-mul-first c = search needs
+  own-long : first + 19 ≤ length rows → length own ≡ 19
+  own-long within = let count : first + 19 - first ≡ 19 = omega arith in rw count (length-section first 19 rows within)
 
-shared-slice-read-first : tie.Need-shared-slice-read-first Inv-loop μ-loop
-shared-slice-read-first c = search needs
+  own-small : AtMost trillion rows → AtMost trillion own
+  own-small small = section-all (λ n. n ≤ trillion) 0 rows (omega arith) small first (first + 19 - first)
 
-mul-first-2 : tie.Need-mul-first-2 Inv-loop μ-loop
-mul-first-2 c =
-    omega (arith, c .before .before .before .before .before .pre .1 .1 .1 (c .before .before .loop .i) (omega arith))
+  own-flow : (k : ℕ) → k < 19 → getD own k 0 ≡ rowFlow rows which (19 * i + k)
+  own-flow k l =
+      let scenario : i ≡ (19 * i + k) / 19 = omega arith in
+      let bucket : k ≡ (19 * i + k) % 19 = omega arith in
+      section-at first (first + 19 - first) rows k 0 (omega arith) ∙ ap₂ (λ (n j : ℕ). getD rows (19 * getD which n 0 + j) 0) scenario bucket
 
-add-last : tie.Need-add-last Inv-loop μ-loop
-add-last c =
-    omega (arith, c .before .before .before .before .before .pre .1 .1 .1 (c .before .before .loop .i) (omega arith))
+-- it stands within the rows
+within : (c : tie.After-shared-slice-known3 Inv-loop μ-loop)
+    → first (c .before .before .before .before .before .args .rows .now) (c .before .before .before .before .before .args .which .now) (c .before .before .loop .i) + 19
+    ≤ length (c .before .before .before .before .before .args .rows .now)
+within c = c .before .before .before .before .before .pre .1 .1 .1 (c .before .before .loop .i) (omega arith)
 
-mul-add-flows : tie.Need-mul-add-flows Inv-loop μ-loop
-mul-add-flows c = search needs
+part-sided-row-end : tie.Need-part-sided-row-end Inv-loop μ-loop
+part-sided-row-end c = let w = within c in search needs
 
-sub-add-flows : tie.Need-sub-add-flows Inv-loop μ-loop
-sub-add-flows c = search needs
-
-part-add-flows-start : tie.Need-part-add-flows-start Inv-loop μ-loop
-part-add-flows-start c = search needs
-
-part-add-flows-end : tie.Need-part-add-flows-end Inv-loop μ-loop
-part-add-flows-end c = search needs
-
-mul-add-flows-2 : tie.Need-mul-add-flows-2 Inv-loop μ-loop
-mul-add-flows-2 c =
-    omega (arith, c .before .before .before .before .before .before .pre .1 .1 .1 (c .before .before .before .loop .i) (omega arith))
-
-sub-add-flows-2 : tie.Need-sub-add-flows-2 Inv-loop μ-loop
-sub-add-flows-2 c = search needs
-
-part-add-flows-start-2 : tie.Need-part-add-flows-start-2 Inv-loop μ-loop
-part-add-flows-start-2 c = search needs
-
-part-add-flows-end-2 : tie.Need-part-add-flows-end-2 Inv-loop μ-loop
-part-add-flows-end-2 c =
-    let within = c .before .before .before .before .before .before .pre .1 .1 .1 (c .before .before .before .loop .i) (omega arith) in
-    search needs
-
-add-flows-requires : tie.Need-add-flows-requires Inv-loop μ-loop
-add-flows-requires c κs =
+sided-row-requires : tie.Need-sided-row-requires Inv-loop μ-loop
+sided-row-requires c κs =
     let s = c .before .before .before .before .before .before .before in
-    let at = c .before .before .before .before .loop in
-    let row = getD (s .args .which .now) (at .i) 0 in
-    let within = s .pre .1 .1 .1 (at .i) (omega arith) in
-    let count : 19 * at .i + 19 - 19 * at .i ≡ 19 = omega arith in
-    let row-count : 19 * row + 19 - 19 * row ≡ 19 = omega arith in
-    rw (count, row-count) (
-      length-section (19 * row) 19 (s .args .rows .now) within ∙ sym (length-section (19 * at .i) 19 (at .section) (omega (arith, at .inv .1))),
-      (
-        part-all +ℤ-idr (at .inv .2) 19 (omega (arith, s .pre .0 .0)) (λ z. natAbs z ≤ trillion) (omega arith) (s .pre .1 .0),
-        section-all (λ n. n ≤ trillion) 0 (s .args .rows .now) (omega arith) (s .pre .1 .1 .0) (19 * row) 19,
-      ),
+    let i = c .before .before .before .before .loop .i in (
+      (own-long (s .args .rows .now) (s .args .which .now) i (within (c .before .before)), search needs),
+      own-small (s .args .rows .now) (s .args .which .now) i (s .pre .1 .1 .0),
     )
 
-add-i : tie.Need-add-i Inv-loop μ-loop
-add-i c = search needs
-
-loop-less : tie.Need-loop-less Inv-loop μ-loop
-loop-less c = search needs
+add-cells-requires : tie.Need-add-cells-requires Inv-loop μ-loop
+add-cells-requires c κs =
+    let s = c .before .before .before .before .before .before .before .before .before .before .before in
+    let at = c .before .before .before .before .before .before .before .before .loop in
+    let row = own (s .args .rows .now) (s .args .which .now) (at .i) in
+    let small = own-small (s .args .rows .now) (s .args .which .now) (at .i) (s .pre .1 .1 .0) in
+    let signed = c .before .before .before .sided-row .ensures in
+    let count : 19 * at .i + 19 - 19 * at .i ≡ 19 = omega arith in
+    rw count (row-fits (s .args .side) row signed (at .i) (omega (arith, s .pre .0 .0)) (at .inv .2) (s .pre .1 .0) small)
 
 loop-again : tie.Need-loop-again Inv-loop μ-loop
 loop-again c =
-    let s = c .before .before .before .before .before .before .before .before .before in
-    let at = c .before .before .before .before .before .before .loop in
-    let side = s .args .side in
-    let rows = s .args .rows .now in
-    let row = getD (s .args .which .now) (at .i) 0 in
+    let s = c .before .before .before .before .before .before .before .before .before .before .before .before .before in
+    let at = c .before .before .before .before .before .before .before .before .before .before .loop in
+    let row = own (s .args .rows .now) (s .args .which .now) (at .i) in
+    let signed = c .before .before .before .before .before .sided-row .ensures in
     let count : 19 * at .i + 19 - 19 * at .i ≡ 19 = omega arith in
-    let row-count : 19 * row + 19 - 19 * row ≡ 19 = omega arith in
-    let more : 19 * at .i + 19 ≡ 19 * (at .i + 1) = omega arith in
-    let room : 19 * at .i + 19 ≤ length (s .args .section .now) = omega (arith, s .pre .0 .0) in
-    let added = rw (count, row-count) at (c .before .add-flows .ensures) in
-    let next = joining-part +ℤ-idr (at .inv .2) 19 room (λ j. sided side (pos (getD (section (19 * row) 19 rows) j 0))) added
-    (λ j l.
-    let scenario : at .i ≡ (19 * at .i + j) / 19 = omega arith in
-    let bucket : j ≡ (19 * at .i + j) % 19 = omega arith in
-    ap (λ (n : ℕ). sided side (pos n)) (section-at (19 * row) 19 rows j 0 l ∙ ap₂ (λ (i k : ℕ). getD rows (19 * getD (s .args .which .now) i 0 + k) 0) scenario bucket)) in
-    rw count (omega arith, joining-long +ℤ-idr next ∙ s .pre .0 .0, rw more at next)
-
-same-length : tie.Need-same-length Inv-loop μ-loop
-same-length c = search needs
+    let next = row-added (s .args .side) row signed (at .i) (omega (arith, s .pre .0 .0)) (at .inv .2) (rw count at (c .before .add-cells .ensures))
+    (λ k l. ap (λ (n : ℕ). sided (s .args .side) (pos n)) (own-flow (s .args .rows .now) (s .args .which .now) (at .i) k l)) in
+    rw count (omega arith, joining-long +ℤ-idr next ∙ s .pre .0 .0, next)
 
 returns : tie.Need-returns Inv-loop μ-loop
 returns c =
@@ -125,23 +94,26 @@ add-rows-spec =
     Inv-loop
     μ-loop
     loop-holds
-    mul-from
-    add-to
-    mul-first
-    shared-slice-read-first
-    mul-first-2
-    add-last
-    mul-add-flows
-    sub-add-flows
-    part-add-flows-start
-    part-add-flows-end
-    mul-add-flows-2
-    sub-add-flows-2
-    part-add-flows-start-2
-    part-add-flows-end-2
-    add-flows-requires
-    add-i
-    loop-less
+    (λ c. search needs)
+    (λ c. search needs)
+    (λ c. search needs)
+    (λ c. search needs)
+    (λ c. omega (arith, within c))
+    (λ c. omega (arith, within c))
+    (λ c. omega (arith, within c))
+    (λ c. search needs)
+    (λ c. search needs)
+    part-sided-row-end
+    (λ c. search needs)
+    sided-row-requires
+    (λ c. search needs)
+    (λ c. search needs)
+    (λ c. search needs)
+    (λ c. search needs)
+    (λ c. search needs)
+    add-cells-requires
+    (λ c. search needs)
+    (λ c. search needs)
     loop-again
-    same-length
+    (λ c. search needs)
     returns)
