@@ -1,7 +1,7 @@
 -- How many coupons fall into a bucket, by division on its ends; and what coupons and one amount due come to.
 use Prim.Native.Nat.{ℕ, zero, suc, _+_, _*_, _-_, _/_, _≤_, _<_, min}
 use mathlib.Core.Bool.{Bool, true, false, not, _&&_, _||_}
-use mathlib.Core.List.{List, [], _∷_}
+use mathlib.Core.List.{List, _∷_}
 use mathlib.Core.Logic.{_⊎_, inl, inr, ⊎-elim}
 use mathlib.Core.Path.{_≡_, refl, sym, ap, ap₂, _∙_}
 use native.Mathlib.Decide.{ℕ-discrete}
@@ -22,13 +22,9 @@ use Rattle.paper.proofs.Buckets.{in-bucket}
 use Rattle.paper.proofs.Magnitudes.{coupons-add-up, coupons-and-due}
 use Rattle.posting.proofs.Loops.{raised}
 use Rattle.due.specs.declared.schedule.Schedule.{Schedule}
-use Rattle.due.specs.Schedules.{startOf, scheduled, Regular, monthSeen}
+use Rattle.due.specs.Schedules.{startOf, scheduled, Regular, monthEnds, monthSeen}
 
--- the months by which a bucket ends, after those of the bucket before; no coupon is seen past 601
-unfoldable pub monthEnds : List ℕ
-monthEnds = 0 ∷ 1 ∷ 3 ∷ 6 ∷ 9 ∷ 12 ∷ 18 ∷ 24 ∷ 36 ∷ 48 ∷ 60 ∷ 72 ∷ 84 ∷ 96 ∷ 108 ∷ 120 ∷ 180 ∷ 240 ∷ 601 ∷ []
-
--- by which the first k buckets end
+-- the months by which the first k buckets end
 abbrev pub ends : ℕ → ℕ
 ends k = getD (0 ∷ monthEnds) k 0
 

@@ -6,7 +6,8 @@ use native.Mathlib.Omega.{arith}
 use borrow.Author.Tests.{eqb-true, leb-true}
 use Rattle.laws.specs.Tests.{_is_, _upTo_, all}
 use Rattle.laws.proofs.Tests.{and-true, all-at}
-use Rattle.due.proofs.Periods.{monthEnds, ends}
+use Rattle.due.specs.Schedules.{monthEnds}
+use Rattle.due.proofs.Periods.{ends}
 
 abbrev share : ℕ → ℕ
 share period = (65535 + period) / period

@@ -1,5 +1,6 @@
 -- Coupons at regular periods after a start, and one amount due at a term.
 use Prim.Native.Nat.{ℕ, suc, _+_, _*_, _≤_}
+use mathlib.Core.List.{List, [], _∷_}
 use Rattle.laws.specs.Tests.{if_then_else_, _is_}
 use Rattle.paper.specs.Scales.{billion}
 use Rattle.paper.specs.Ladder.{Term}
@@ -23,3 +24,7 @@ pub record Regular (s : Schedule) : Type 0 where
 -- every end but the first is a whole month: days past a month act there as a month more
 unfoldable pub monthSeen : Term → ℕ
 monthSeen t = if t .days is 0 then t .months else suc (t .months)
+
+-- the months by which a bucket ends, after those of the bucket before; no coupon is seen past 601
+unfoldable pub monthEnds : List ℕ
+monthEnds = 0 ∷ 1 ∷ 3 ∷ 6 ∷ 9 ∷ 12 ∷ 18 ∷ 24 ∷ 36 ∷ 48 ∷ 60 ∷ 72 ∷ 84 ∷ 96 ∷ 108 ∷ 120 ∷ 180 ∷ 240 ∷ 601 ∷ []

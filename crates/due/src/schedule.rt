@@ -2,12 +2,12 @@
 // bucket is worked out from the end, so there is no pass over the coupons.
 ghost use Prim.Native.Nat.{ℕ, _+_, _*_, _-_, _/_, _%_, _≤_, min};
 ghost use mathlib.Core.Path.{_≡_};
-ghost use lib.ListN.{length};
+ghost use lib.ListN.{length, getD};
 ghost use Rattle.laws.specs.Lists.{tabulate};
 ghost use Rattle.paper.specs.Ladder.{buckets};
 ghost use Rattle.paper.specs.Flow.{couponsDue};
 ghost use Rattle.posting.specs.Parts.{FlowParts, Enters};
-ghost use Rattle.due.specs.Schedules.{startOf, scheduled, Regular, monthSeen};
+ghost use Rattle.due.specs.Schedules.{startOf, scheduled, Regular, monthEnds, monthSeen};
 use ladder::bucket_of;
 use paper::BUCKETS;
 use posting::Taken;
@@ -81,6 +81,20 @@ fn due_by(end: u32, start: u32, share: u32, count: u32) -> u32
     at_most(count, months_since(start, end) * share / 65536)
 }
 
+// So many coupons are due by the end of each bucket.
+fn due_by_ends(start: u32, share: u32, count: u32, by: &mut [u32])
+    requires { ⌜ (length (now by) ≡ buckets) × (share ≤ 65536) ⌝ }
+    ensures { λ _. ⌜ now (by .exit) ≡ tabulate (λ k. min count ((getD monthEnds k 0 - start) * share / 65536)) buckets ⌝ }
+{
+    let ends = MONTH_ENDS;
+    let mut k: usize = 0;
+    while k < BUCKETS {
+        by[k] = due_by(ends[k], start, share, count);
+        k += 1;
+    }
+}
+
+// Two passes, in which no bucket waits for the one before: the compiler writes both out, with the ends as numbers and without a branch.
 fn coupon_row(coupons: Schedule, row: &mut [u64])
     requires { ⌜ Regular coupons ⌝ }
     requires { ⌜ length (now row) ≡ buckets ⌝ }
@@ -88,13 +102,13 @@ fn coupon_row(coupons: Schedule, row: &mut [u64])
 {
     let start = month_seen(coupons.months, coupons.days);
     let share = period_share(coupons.period);
-    let ends = MONTH_ENDS;
-    let mut before: u32 = 0;
-    let mut k: usize = 0;
+    let mut by = [0u32; BUCKETS];
+    due_by_ends(start, share, coupons.count, &mut by);
+    let each = coupons.coupon.0;
+    row[0] = (by[0] as u64) * each;
+    let mut k: usize = 1;
     while k < BUCKETS {
-        let by = due_by(ends[k], start, share, coupons.count);
-        row[k] = ((by - before) as u64) * coupons.coupon.0;
-        before = by;
+        row[k] = ((by[k] - by[k - 1]) as u64) * each;
         k += 1;
     }
 }
