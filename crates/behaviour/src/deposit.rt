@@ -10,7 +10,7 @@ ghost use Rattle.paper.specs.Behaviour.{depositFlow};
 ghost use Rattle.fields.specs.Answers.{amountsFrom};
 ghost use Rattle.posting.specs.Parts.{AtMost};
 use crate::amounts::amount_of;
-use crate::amounts::sum_from;
+use crate::amounts::row_sum;
 use paper::BUCKETS;
 use scales::Thousands;
 
@@ -24,5 +24,6 @@ pub fn core_row(body: &[u8], total: Thousands, row: &mut [u64])
         row[k] = amount_of(body, 6, k).0;
         k += 1;
     }
-    row[0] += total.0 - sum_from(body, 6).0;
+    let core = row_sum(row);
+    row[0] += total.0 - core.0;
 }

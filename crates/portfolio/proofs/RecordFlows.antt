@@ -1,13 +1,14 @@
 -- Kinds 4 to 6: a bound of each flow, and the record's flows and magnitudes.
-use Prim.Native.Nat.{ℕ, _≤_, _<_}
+use Prim.Native.Nat.{ℕ, _*_, _≤_, _<_}
 use mathlib.Core.List.{List}
 use mathlib.Core.Path.{_≡_, refl}
 use native.Mathlib.Nat.{le-refl}
 use native.Mathlib.Omega.{arith}
 use lib.IntN.{pos}
-use lib.ListN.{length}
+use lib.ListN.{length, getD}
 use Rattle.laws.specs.Sums.{sum, sumOf}
-use Rattle.laws.proofs.Sums.{sum-upto}
+use Rattle.laws.proofs.Sums.{sum-most, sum-upto}
+use Rattle.laws.proofs.Totals.{sum-getD}
 use Rattle.paper.specs.Scales.{billion}
 use Rattle.paper.specs.Ladder.{buckets}
 use Rattle.paper.specs.Records.{loan, termDeposit, flows}
@@ -15,6 +16,7 @@ use Rattle.paper.specs.Behaviour.{wholeRate, depositFlow, prepaymentRate, loanF
 use Rattle.paper.specs.Flow.{sided, flowOf, flow, magnitude}
 use Rattle.paper.specs.Sound.{SoundFlows}
 use Rattle.paper.proofs.Deposits.{deposit-adds-up, moves-add-up}
+use Rattle.posting.specs.Parts.{AtMost}
 use Rattle.behaviour.specs.Rows.{SoundSchedule}
 use Rattle.behaviour.proofs.AmountRange.{amounts-small}
 use Rattle.behaviour.proofs.Prepayment.{loan-sum}
@@ -47,6 +49,9 @@ unfolding SoundFlows
 schedule-of share principals interests h = record { principals-small = amounts-small (h .1); interests-small = amounts-small (h .2); none-alone = h .3; all-small = h .4 }
 
 -- ---- kind 6
+
+pub amounts-most : (amounts : List ℕ) → length amounts ≤ buckets → AtMost billion amounts → sumOf amounts ≤ buckets * billion
+amounts-most amounts few small = rw (← sum-getD amounts buckets few) (sum-most (λ k. getD amounts k 0) buckets billion (λ k _. small k))
 
 pub withdrawn-small : (rate : ℕ) (amounts : List ℕ) → rate ≤ wholeRate → length amounts ≤ buckets → (k : ℕ) → k < buckets → termDepositFlow rate amounts k ≤ sumOf amounts
 withdrawn-small rate amounts h few k l = omega (arith, sum-upto (termDepositFlow rate amounts) k buckets l, moves-add-up rate amounts h few)

@@ -1,15 +1,19 @@
 -- Flows in rows of nineteen, and the row and the rate that each scenario has.
-use Prim.Native.Nat.{ℕ, _+_, _*_, _/_, _%_, _<_, min}
+use Prim.Native.Nat.{ℕ, _+_, _*_, _/_, _%_, _≤_, _<_, min}
 use mathlib.Core.Bool.{Bool, true, _&&_}
 use mathlib.Core.List.{List}
-use mathlib.Core.Path.{_≡_, ap, ap₂, _∙_}
+use mathlib.Core.Path.{_≡_, sym, ap, ap₂, _∙_}
 use native.Mathlib.Omega.{arith}
 use lib.IntN.{ℤ, pos}
-use lib.ListN.{getD}
+use lib.ListN.{length, getD}
 use borrow.Author.Tests.{ltb-true, eqb-true}
 use Rattle.laws.specs.Tests.{_is_, _below_, all}
-use Rattle.laws.specs.Lists.{tabulate}
+use Rattle.laws.specs.Sums.{sum, sumOf}
+use Rattle.laws.specs.Lists.{tabulate, section}
 use Rattle.laws.proofs.Tests.{and-true, all-at}
+use Rattle.laws.proofs.Sums.{sum-ext}
+use Rattle.laws.proofs.Totals.{sum-getD}
+use Rattle.laws.proofs.Sections.{length-section, section-place, section-all}
 use Rattle.laws.proofs.Filling.{byRow}
 use Rattle.paper.specs.Ladder.{buckets}
 use Rattle.paper.specs.Refusals.{Checked, accepted}
@@ -17,9 +21,9 @@ use Rattle.paper.specs.Records.{Record}
 use Rattle.paper.specs.Behaviour.{wholeRate, behaviouralRate}
 use Rattle.paper.specs.Flow.{scenarios, sided, flow, magnitude}
 use Rattle.posting.specs.declared.Taken.{Taken}
-use Rattle.posting.specs.Parts.{FlowParts, Entered, rowFlow, rowSum}
+use Rattle.posting.specs.Parts.{AtMost, FlowParts, Entered, rowFlow, rowSum}
 use Rattle.behaviour.specs.Rows.{threeMultipliers}
-use Rattle.posting.proofs.Loops.{row-at}
+use Rattle.posting.proofs.Loops.{row-long, row-at}
 use Rattle.posting.specs.Answers.{FlowsTaken}
 use Rattle.posting.proofs.Admission.{entered-taken}
 
@@ -42,6 +46,22 @@ module _ (r : Record) {read : Checked Record} (accepts : read ≡ accepted r) (s
           let at : (19 * n + j % 19) / 19 ≡ n = omega arith in
           let bucket : (19 * n + j % 19) % 19 ≡ j % 19 = omega arith in
           ap (λ (x : ℕ). sided side (pos x)) (row-at (byPlace row) 57 e (19 * n + j % 19) (omega arith) ∙ ap₂ row at bucket)
+
+-- the first row alone, as it is lent to be summed
+module _ (row : ℕ → ℕ → ℕ) {l : List ℕ} (e : l ≡ tabulate (byPlace row) 57) where
+  first-long : length (section 0 19 l) ≡ 19
+  first-long = length-section 0 19 l (rw (row-long (byPlace row) 57 e) (omega arith))
+
+  pub first-row : {b : ℕ} → AtMost b l → (length (section 0 19 l) ≡ 19) × AtMost b (section 0 19 l)
+  first-row {b} small = (first-long, section-all (λ n. n ≤ b) 0 l (omega arith) small 0 19)
+
+  pub first-sum : sumOf (section 0 19 l) ≡ sum (row 0) 19
+  first-sum =
+      sym (sum-getD (section 0 19 l) 19 (rw first-long (omega arith)))
+      ∙ sum-ext _ (row 0) 19 (λ k o.
+      let first : k / 19 ≡ 0 = omega arith in
+      let bucket : k % 19 ≡ k = omega arith in
+      sym (section-place 0 19 l k k 0 o (omega arith)) ∙ row-at (byPlace row) 57 e k (omega arith) ∙ ap₂ row first bucket)
 
 -- ---- which of the three rates a scenario has: a table, tied to the paper's multipliers by one computed test
 

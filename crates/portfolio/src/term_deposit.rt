@@ -4,10 +4,11 @@ ghost use Rattle.paper.specs.Decode.{decodeTermDeposit};
 ghost use Rattle.record.specs.Answers.{Body};
 ghost use Rattle.posting.specs.Parts.{FlowParts};
 ghost use Rattle.posting.specs.Answers.{TakesFlows};
-use behaviour::amounts::sum_from;
+use behaviour::amounts::row_sum;
 use behaviour::rates::RATES;
 use behaviour::rates::ROWS;
 use behaviour::term_deposit::withdrawn_rows;
+use paper::BUCKETS;
 use posting::Taken;
 use posting::flows::enter_rows;
 use record::term_deposit::DecodedTermDeposit;
@@ -30,7 +31,7 @@ pub fn take_term_deposit(
             let which = [0usize, 2, 1, 1, 2, 2, 1];
             let mut rows = [0u64; ROWS];
             withdrawn_rows(body, deposit.share, &mut rows);
-            let sums = [sum_from(body, 3).0; RATES];
+            let sums = [row_sum(&rows[0..BUCKETS]).0; RATES];
             enter_rows(&rows, &which, 2, &sums, section, sizes)
         }
     }

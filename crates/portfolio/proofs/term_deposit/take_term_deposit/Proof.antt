@@ -4,19 +4,20 @@ use lib.IntN.{pos}
 use lib.ListN.{replicate, getD-replicate}
 use Rattle.laws.specs.Tests.{all}
 use Rattle.laws.specs.Sums.{sumOf}
+use Rattle.laws.specs.Lists.{tabulate}
 use Rattle.paper.specs.Ladder.{buckets}
 use Rattle.paper.specs.Behaviour.{behaviouralRate, withdrawalMultipliers, termDepositFlow}
 use Rattle.paper.specs.Flow.{sided}
 use Rattle.paper.specs.Decode.{decodeTermDeposit}
-use Rattle.paper.proofs.Deposits.{rate-at-most}
+use Rattle.paper.proofs.Deposits.{moves-add-up, rate-at-most}
 use Rattle.paper.proofs.Magnitudes.{size-term-deposit}
 use Rattle.fields.specs.Answers.{amountsFrom}
 use Rattle.record.specs.Answers.{termDepositOf, termDepositRead}
-use Rattle.posting.specs.Parts.{trillion}
+use Rattle.posting.specs.Parts.{AtMost, trillion}
 use Rattle.behaviour.specs.Rows.{threeMultipliers}
 use Rattle.posting.proofs.Loops.{replicate-all, row-long, row-small}
-use Rattle.portfolio.proofs.Rows.{byPlace, rows-taken, tied, tied-within, tied-rate}
-use Rattle.portfolio.proofs.RecordFlows.{withdrawn-small, withdrawn-flow}
+use Rattle.portfolio.proofs.Rows.{byPlace, rows-taken, first-row, first-sum, tied, tied-within, tied-rate}
+use Rattle.portfolio.proofs.RecordFlows.{amounts-most, withdrawn-small, withdrawn-flow}
 use mathlib.Core.Bool.{true, false}
 use mathlib.Core.List.{List, [], _∷_}
 use mathlib.Core.Path.{_≡_, refl, sym, ap, _∙_}
@@ -76,12 +77,6 @@ withdrawn-rows-requires c κs =
     let w = c .before in
     ((w .before .before .before .before .before .before .pre .0 .long, sound w .0 .to, refl), amounts-small (sound w .1))
 
-sum-from-requires : tie.Need-sum-from-requires
-unfolding SoundFlows
-sum-from-requires c κs =
-    let w = c .before .before .before in
-    (omega (arith, w .before .before .before .before .before .before .pre .0 .long), amounts-small (sound w .1))
-
 slice-aggregate-enter-rows : tie.Need-slice-aggregate-enter-rows
 slice-aggregate-enter-rows c = search needs
 
@@ -97,17 +92,39 @@ row-within w n k l =
     withdrawn-small (behaviouralRate threeMultipliers (fields w .share) n) (amountsFrom (body w) 3) (rate-at-most threeMultipliers (fields w .share) n)
     (amounts-few (body w) 3) k l
 
+rows-small : (w : tie.After-known-told2) {l : List ℕ} → l ≡ tabulate (byPlace (row w)) 57 → AtMost trillion l
+unfolding SoundFlows
+rows-small w filled =
+    row-small (byPlace (row w)) 57 trillion filled
+    (λ j l. omega (arith, row-within w (j / buckets) (j % buckets) (omega arith), amounts-most (amountsFrom (body w) 3) (amounts-few (body w) 3) (amounts-small (sound w .1))))
+
+row-sum-requires : tie.Need-row-sum-requires
+row-sum-requires c κs =
+    let filled = c .before .before .before .withdrawn-rows .ensures in
+    let w = c .before .before .before .before .before in
+    first-row (row w) filled (rows-small w filled)
+
+-- all that is deposited, at every rate
+summed : (c : tie.After-row-sum) → c .row-sum .result .0 ≡ sumOf (amountsFrom (body (c .before .before .before .before .before .before)) 3)
+summed c =
+    let w = c .before .before .before .before .before .before in
+    c .row-sum .ensures
+    ∙ first-sum (row w) (c .before .before .before .before .withdrawn-rows .ensures)
+    ∙ moves-add-up (behaviouralRate threeMultipliers (fields w .share) 0) (amountsFrom (body w) 3) (rate-at-most threeMultipliers (fields w .share) 0) (amounts-few (body w) 3)
+
 enter-rows-requires : tie.Need-enter-rows-requires
+unfolding SoundFlows
 enter-rows-requires c κs =
-    let w = c .before .before .before .before .before .before .before .before .before in
-    let filled = c .before .before .before .before .before .before .before .withdrawn-rows .ensures in
-    let size = c .before .before .before .before .before .sum-from .ensures in (
+    let s = c .before .before .before .before .before in
+    let filled = s .before .before .before .before .withdrawn-rows .ensures in
+    let w = s .before .before .before .before .before .before in
+    let most = amounts-most (amountsFrom (body w) 3) (amounts-few (body w) 3) (amounts-small (sound w .1)) in (
       record {
         rows-long = row-long (byPlace (row w)) 57 filled;
         which-long = refl;
         which-in = tied-within which withdrawalMultipliers chosen;
-        rows-small = row-small (byPlace (row w)) 57 trillion filled (λ j l. omega (arith, row-within w (j / buckets) (j % buckets) (omega arith), size .0, size .1));
-        sums-small = replicate-all 0 (λ n. n ≤ trillion) 3 (c .before .before .before .before .before .sum-from .result .0) (omega (arith, size .1)) (omega arith);
+        rows-small = rows-small w filled;
+        sums-small = replicate-all 0 (λ n. n ≤ trillion) 3 (s .row-sum .result .0) (omega (arith, summed s, most)) (omega arith);
       },
       w .before .before .before .before .before .before .pre .1,
     )
@@ -124,16 +141,16 @@ same-length-2 c = search needs
 
 returns-2 : tie.Need-returns-2
 returns-2 c =
-    let w = c .before .before .before .before .before .before .before .before .before .before .before .before .before in
+    let s = c .before .before .before .before .before .before .before .before .before in
+    let w = s .before .before .before .before .before .before in
     let d = fields w in
     let amounts = amountsFrom (body w) 3 in
-    let sum = c .before .before .before .before .before .before .before .before .before .sum-from in
     let within = tied-within which withdrawalMultipliers chosen in
-    rows-taken _ (read w) 2 (w .before .before .before .before .before .before .pre .1) (row w) which (replicate 3 (sum .result .0))
-    (c .before .before .before .before .before .before .before .before .before .before .before .withdrawn-rows .ensures) within
+    rows-taken _ (read w) 2 (w .before .before .before .before .before .before .pre .1) (row w) which (replicate 3 (s .row-sum .result .0))
+    (s .before .before .before .before .withdrawn-rows .ensures) within
     (λ i k o. ap (λ (x : ℕ). sided 2 (pos (termDepositFlow x amounts k))) (tied-rate which withdrawalMultipliers chosen i o (d .share))
     ∙ withdrawn-flow (d .currency) (d .share) amounts i k)
-    (λ i o. getD-replicate 3 _ (sum .result .0) 0 (within i o) ∙ sum .ensures .0 ∙ sym (size-term-deposit (d .currency) i (d .share) amounts (amounts-few (body w) 3)))
+    (λ i o. getD-replicate 3 _ (s .row-sum .result .0) 0 (within i o) ∙ summed s ∙ sym (size-term-deposit (d .currency) i (d .share) amounts (amounts-few (body w) 3)))
     (c .before .before .before .enter-rows .ensures)
 
 pub take-term-deposit-spec : {M : Type 1} → statement M
@@ -145,7 +162,10 @@ take-term-deposit-spec =
     enum-known-deposit
     slice-aggregate-withdrawn-rows
     withdrawn-rows-requires
-    sum-from-requires
+    (λ c. search needs)
+    (λ c. search needs)
+    (λ c. search needs)
+    row-sum-requires
     slice-aggregate-enter-rows
     slice-aggregate-enter-rows-2
     slice-aggregate-enter-rows-3
