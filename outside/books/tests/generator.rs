@@ -1,6 +1,6 @@
 //! The generator keeps what it promises: it reaches every number at its edges, every kind and every size.
 
-use books::{aimed_case, case, good_case, Draw, Expected};
+use books::{aimed_case, case, good_case, month_end, Draw, Expected};
 use reference::{bucket_index, split, step, Answer, Step, LONGEST_BOOK};
 use std::collections::BTreeMap;
 
@@ -40,6 +40,27 @@ fn good_books_have_spreads_at_their_edges() {
         }
     }
     assert!(last > 1_000 && carried > 1_000, "{last} up to month 600, {carried} past an end by days");
+}
+
+/// A curve is of kind 8. The two small books stand last.
+#[test]
+fn month_end_books_are_accepted_long_and_of_the_kinds_that_they_are_named_for() {
+    let small = ["ten-records", "ten-positions-eight-curves"];
+    for (name, case) in month_end() {
+        assert_eq!(case.request().answer().refused(), None, "{name}");
+        let records = split(&case.book).0;
+        let mut kinds: Vec<u8> = records.iter().map(|record| record[0]).filter(|kind| *kind != 8).collect();
+        let positions = kinds.len();
+        kinds.sort_unstable();
+        kinds.dedup();
+        match name {
+            "ten-records" => assert_eq!((records.len(), kinds.len()), (10, 8)),
+            "ten-positions-eight-curves" => assert_eq!((records.len() - positions, positions), (8, 10)),
+            "every-kind-eight-curves" => assert_eq!((records.len() - positions, kinds.len()), (8, 8)),
+            _ => assert_eq!((records.len() - positions, kinds.len()), (1, 1), "{name}"),
+        }
+        assert_eq!(case.book.len() < 60_000, small.contains(&name), "{name}");
+    }
 }
 
 /// The place and the number come from how the case was made, not from the reference.

@@ -23,6 +23,8 @@ compare long SECONDS -- PIPE                   the same in batches from fresh se
 compare irreport FIRST-SEED CASES -- IRREPORT  seeded inputs through the report program
 compare streams -- IRREPORT                    the report program with streams that cannot be read or written
 compare inputs FIRST-SEED CASES DIRECTORY      write the seeded inputs as files, with nothing compared
+compare month-end -- PIPE                      the books of a month-end run through the C face; each has to be reported
+compare month-end DIRECTORY                    write their inputs as files, with nothing compared
 
 PIPE starts the C program of face/pipe.c, IRREPORT the report program; either may begin with an emulator.
 Status: 0 no difference and enough compared; 1 a difference, or too little compared; 2 not done.
@@ -57,7 +59,9 @@ fn main() -> ExitCode {
 
 fn run(words: &[&str], command: &[String]) -> Result<Ending, String> {
     match (words, command) {
-        (["face" | "first" | "long" | "irreport" | "streams", ..], []) => Err("-- COMMAND is wanted".to_string()),
+        (["face" | "first" | "long" | "irreport" | "streams", ..] | ["month-end"], []) => {
+            Err("-- COMMAND is wanted".to_string())
+        }
         ([mode @ ("face" | "first"), seed, cases], _) => {
             let only_first = *mode == "first";
             let tally = through_face::compare(&mut Face::start(command)?, number(seed)?, number(cases)?, only_first);
@@ -73,8 +77,10 @@ fn run(words: &[&str], command: &[String]) -> Result<Ending, String> {
         }
         (["streams"], _) => streams(&Program::of(command)?),
         (["inputs", seed, cases, directory], []) => inputs(number(seed)?, number(cases)?, Path::new(directory)),
+        (["month-end"], _) => month_end(&mut Face::start(command)?),
+        (["month-end", directory], []) => month_end_inputs(Path::new(directory)),
         (["help" | "--help" | "-h"], []) => Ok(Ending { line: HELP.trim_end().to_string(), complaint: None }),
-        _ => Err("face, first, long, irreport, streams, inputs or help is wanted, as help says".to_string()),
+        _ => Err("face, first, long, irreport, streams, inputs, month-end or help is wanted, as help says".to_string()),
     }
 }
 
@@ -93,12 +99,32 @@ fn streams(program: &Program) -> Result<Ending, String> {
 }
 
 fn inputs(first_seed: u64, cases: u64, directory: &Path) -> Result<Ending, String> {
+    let seeds = (0..cases).map(|index| first_seed.wrapping_add(index));
+    write_inputs(directory, seeds.map(|seed| (seed.to_string(), books::case(seed).input())))
+}
+
+fn month_end(face: &mut Face) -> Result<Ending, String> {
+    let tally = through_face::compare_month_end(face, books::month_end());
+    let turned_down = tally.cases - tally.reported;
+    let mut ending = ending("C face, month-end books".to_string(), tally, &FACE);
+    if turned_down > 0 {
+        ending.complaint = Some(format!("{turned_down} of the books are turned down"));
+    }
+    Ok(ending)
+}
+
+fn month_end_inputs(directory: &Path) -> Result<Ending, String> {
+    write_inputs(directory, books::month_end().into_iter().map(|(name, case)| (name.to_string(), case.input())))
+}
+
+fn write_inputs(directory: &Path, inputs: impl Iterator<Item = (String, Vec<u8>)>) -> Result<Ending, String> {
     let failed = |path: &Path, error: std::io::Error| format!("{}: cannot be written: {error}", path.display());
     std::fs::create_dir_all(directory).map_err(|error| failed(directory, error))?;
-    for index in 0..cases {
-        let seed = first_seed.wrapping_add(index);
-        let path = directory.join(format!("{seed}.input"));
-        std::fs::write(&path, books::case(seed).input()).map_err(|error| failed(&path, error))?;
+    let mut written = 0;
+    for (name, input) in inputs {
+        let path = directory.join(format!("{name}.input"));
+        std::fs::write(&path, input).map_err(|error| failed(&path, error))?;
+        written += 1;
     }
-    Ok(Ending { line: format!("{cases} inputs written to {}", directory.display()), complaint: None })
+    Ok(Ending { line: format!("{written} inputs written to {}", directory.display()), complaint: None })
 }

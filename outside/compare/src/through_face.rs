@@ -1,9 +1,10 @@
-//! Seeded cases through the C face, each held against the reference.
+//! Seeded cases and the books of a month-end run through the C face, each held against the reference.
 
 use crate::face::Face;
 use crate::rooms::{Call, Outcome};
 use crate::show;
 use crate::tally::Tally;
+use books::Case;
 use reference::{Answer, Exact};
 use std::time::Instant;
 
@@ -18,7 +19,7 @@ pub fn compare(face: &mut Face, first_seed: u64, cases: u64, only_first: bool) -
     let mut tally = Tally::default();
     for index in 0..cases {
         let seed = first_seed.wrapping_add(index);
-        compare_case(face, seed, &mut tally);
+        compare_case(face, &format!("seed {seed}"), &Call::of(books::case(seed), seed), JUDGED_ONCE_IN, &mut tally);
         if only_first && tally.differences > 0 {
             break;
         }
@@ -26,24 +27,32 @@ pub fn compare(face: &mut Face, first_seed: u64, cases: u64, only_first: bool) -
     tally
 }
 
-fn compare_case(face: &mut Face, seed: u64, tally: &mut Tally) {
-    let call = Call::of(books::case(seed), seed);
+/// Every one is held against exact numbers.
+pub fn compare_month_end(face: &mut Face, books: Vec<(&str, Case)>) -> Tally {
+    let mut tally = Tally::default();
+    for (seed, (name, case)) in (1..).zip(books) {
+        compare_case(face, name, &Call::of(case, seed), 1, &mut tally);
+    }
+    tally
+}
+
+fn compare_case(face: &mut Face, name: &str, call: &Call, judged_once_in: u64, tally: &mut Tally) {
     let answer = call.request().answer();
     tally.count(&call.book, &answer);
-    let differs = difference(face, &call, &answer);
+    let differs = difference(face, call, &answer);
     let found = match &differs {
         Some(difference) => difference.clone(),
-        None => match unsound(&call, &answer, tally) {
+        None => match unsound(call, &answer, judged_once_in, tally) {
             Some(complaint) => format!("exact numbers contradict the {complaint}"),
             None => return,
         },
     };
     tally.differences += 1;
     if tally.differences <= SHOWN {
-        println!("difference at seed {seed}: {found}");
+        println!("difference at {name}: {found}");
     }
     if tally.differences <= SHRUNK && differs.is_some() {
-        show_smallest(face, &call);
+        show_smallest(face, call);
     }
 }
 
@@ -55,8 +64,8 @@ fn difference(face: &mut Face, call: &Call, answer: &Answer) -> Option<String> {
 }
 
 /// Report and reference agree by now, so that what exact numbers say of the one they say of the other.
-fn unsound(call: &Call, answer: &Answer, tally: &mut Tally) -> Option<String> {
-    let result = answer.accepted().filter(|_| tally.reported % JUDGED_ONCE_IN == 0)?;
+fn unsound(call: &Call, answer: &Answer, judged_once_in: u64, tally: &mut Tally) -> Option<String> {
+    let result = answer.accepted().filter(|_| tally.reported % judged_once_in == 0)?;
     tally.judged += 1;
     Exact::of(&result.positions).complaint(result, call.capital as i64)
 }

@@ -23,7 +23,7 @@ fn wrong_words_get_one_line() {
 
 #[test]
 fn a_program_that_is_not_there_gets_one_line() {
-    for words in [&["face", "1", "2"][..], &["long", "1"], &["irreport", "1", "2"], &["streams"]] {
+    for words in [&["face", "1", "2"][..], &["long", "1"], &["irreport", "1", "2"], &["streams"], &["month-end"]] {
         assert_one_line(
             &compare(&[words, &["--", "/no/such/program"]].concat()),
             "/no/such/program: cannot be started",
