@@ -17,7 +17,7 @@ pub fn amount_of(body: &[u8], from: usize, k: usize) -> Thousands
     requires { ⌜ AtMost billion (amountsFrom (now body) from) ⌝ }
     ensures { λ r. ⌜ (r .0 ≡ getD (amountsFrom (now (body .entry)) from) k 0) × (r .0 ≤ billion) ⌝ }
 {
-    Thousands(money_at(body, from + 4 * k))
+    money_at(body, from + 4 * k)
 }
 
 pub fn sum_from(body: &[u8], from: usize) -> Thousands

@@ -83,7 +83,7 @@ fn bucket_step(
     }
 }
 
-// One bucket at each of the three rates: its flows and their sums, and the balances after it. No rate waits for another's, so the processor works on three balances at a time.
+// One bucket at each of the three rates: its flows and their sums, and the balances after it. A balance waits for that of the bucket before, and for no other rate's: three are worked on at a time.
 fn loan_column(
     body: &[u8],
     rates: &[u64],

@@ -55,13 +55,13 @@ pub fn amount_at(body: &[u8], at: usize) -> Amount
     ensures { λ r. ⌜ r ≡ amountFieldOf (amountAt (now (body .entry)) at) ⌝ }
 {
     let amount = money_at(body, at);
-    if 1000000000 < amount {
+    if 1000000000 < amount.0 {
         return Amount::Bad(Fault {
             cause: Refusal::TooLarge,
             place: at + 1,
         });
     }
-    Amount::Value(Thousands(amount))
+    Amount::Value(amount)
 }
 
 pub fn amounts_at(body: &[u8], from: usize) -> Amounts

@@ -3,6 +3,7 @@ ghost use mathlib.Core.Path.{_≡_};
 ghost use Prim.Native.Nat.{_+_, _<_, _≤_};
 ghost use lib.ListN.{length};
 ghost use Rattle.paper.specs.Fields.{byte, two, four, signed};
+use scales::Thousands;
 
 // The bound is what keeps the sums below within 32 bits.
 fn widened(x: u8) -> u32
@@ -41,15 +42,17 @@ fn wide(x: u8) -> u64
     x as u64
 }
 
-// Four bytes at the width of money. An amount is looked at several times, and is one load and no more as long as all of them make the same number of its bytes.
-pub fn money_at(body: &[u8], at: usize) -> u64
+// Four bytes at the width of money. Several passes look at an amount: as long as all of them make the same number of its bytes, the compiler loads it once.
+pub fn money_at(body: &[u8], at: usize) -> Thousands
     requires { ⌜ at + 4 ≤ length (now body) ⌝ }
-    ensures { λ r. ⌜ (r ≡ four (now (body .entry)) at) × (r < 4294967296) ⌝ }
+    ensures { λ r. ⌜ (r .0 ≡ four (now (body .entry)) at) × (r .0 < 4294967296) ⌝ }
 {
-    wide(body[at]) * 16777216
-        + wide(body[at + 1]) * 65536
-        + wide(body[at + 2]) * 256
-        + wide(body[at + 3])
+    Thousands(
+        wide(body[at]) * 16777216
+            + wide(body[at + 1]) * 65536
+            + wide(body[at + 2]) * 256
+            + wide(body[at + 3]),
+    )
 }
 
 // Two's complement.

@@ -48,7 +48,7 @@ pub fn weighed_core(body: &[u8]) -> u64
     let mut weighed: u64 = 0;
     let mut k: usize = 0;
     while k < BUCKETS {
-        weighed += money_at(body, 6 + 4 * k) * (middles[k] as u64);
+        weighed += money_at(body, 6 + 4 * k).0 * (middles[k] as u64);
         k += 1;
     }
     weighed

@@ -30,11 +30,11 @@ pub fn interest_alone(body: &[u8], principal: Thousands) -> usize
     let mut scheduled = principal;
     let mut k: usize = 0;
     while k < BUCKETS {
-        let interest = Thousands(money_at(body, 79 + 4 * k));
+        let interest = money_at(body, 79 + 4 * k);
         if alone(interest, scheduled) {
             return k;
         }
-        scheduled.0 -= money_at(body, 3 + 4 * k);
+        scheduled.0 -= money_at(body, 3 + 4 * k).0;
         k += 1;
     }
     BUCKETS

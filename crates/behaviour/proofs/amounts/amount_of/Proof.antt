@@ -18,7 +18,7 @@ money-at-requires c κs = search needs
 returns : tie.Need-returns
 returns c =
     let s = c .before .before in
-    let read : c .money-at .result ≡ getD (amountsFrom (s .args .body .now) (s .args .from)) (s .args .k) 0 =
+    let read : c .money-at .result .0 ≡ getD (amountsFrom (s .args .body .now) (s .args .from)) (s .args .k) 0 =
     c .money-at .ensures .0 ∙ sym (tabulate-at _ 19 (s .args .k) 0 (s .pre .0 .1)) in
     (read, rw read (s .pre .1 (s .args .k)))
 

@@ -11,11 +11,11 @@ use Rattle.fields.proofs.amounts.amount_at.Tie as tie
 
 returns : tie.Need-returns
 unfolding unless badAmount
-returns c = field-read badAmount TooLarge _ amountFieldOf (rw (lt-ltb _ _ (c .if1 .taken))) (c .before .money-at .ensures .0)
+returns c = field-read badAmount TooLarge _ amountFieldOf (rw (lt-ltb _ _ (c .if1 .taken))) (c .before .before .money-at .ensures .0)
 
 returns-2 : tie.Need-returns-2
 unfolding unless badAmount
-returns-2 c = field-read badAmount TooLarge _ amountFieldOf (rw (le-ltb _ _ (c .if1 .left))) (c .before .money-at .ensures .0)
+returns-2 c = field-read badAmount TooLarge _ amountFieldOf (rw (le-ltb _ _ (c .if1 .left))) (c .before .before .money-at .ensures .0)
 
 pub amount-at-spec : {M : Type 1} → statement M
 amount-at-spec = tie.close (tie.spec (λ c κs. search needs) (λ c. search needs) returns returns-2)

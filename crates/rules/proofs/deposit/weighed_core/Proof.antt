@@ -18,7 +18,7 @@ abbrev μ-loop : tie.MeasureT-loop
 -- one bucket more
 more : (c : tie.After-money-at Inv-loop μ-loop)
     → Weighed (c .before .before .before .before .before .args .body .now) (c .before .before .loop .k + 1)
-    (c .before .before .loop .weighed + c .money-at .result * getD (c .before .before .before .midpoints .result) (c .before .before .loop .k) 0)
+    (c .before .before .loop .weighed + c .money-at .result .0 * getD (c .before .before .before .midpoints .result) (c .before .before .loop .k) 0)
 more c =
     weighed-more _ _ _ _ _ (c .before .before .loop .inv .1) (c .money-at .ensures .0) (c .money-at .ensures .1)
     (ap (λ (l : List ℕ). getD l (c .before .before .loop .k) 0) (c .before .before .before .midpoints .ensures))
@@ -28,15 +28,15 @@ loop-holds c = (omega arith, weighed-none _)
 
 mul-weighed-2 : tie.Need-mul-weighed-2 Inv-loop μ-loop
 mul-weighed-2 c =
-    record { fits = omega (arith, more c .small) }
+    record { fits = omega (arith, more (c .before) .small) }
 
 add-weighed : tie.Need-add-weighed Inv-loop μ-loop
 add-weighed c =
-    record { fits = omega (arith, more c .small) }
+    record { fits = omega (arith, more (c .before) .small) }
 
 loop-again : tie.Need-loop-again Inv-loop μ-loop
 loop-again c =
-    (omega arith, more c)
+    (omega arith, more (c .before))
 
 returns : tie.Need-returns Inv-loop μ-loop
 returns c =

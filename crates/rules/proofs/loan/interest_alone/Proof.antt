@@ -27,12 +27,12 @@ returns c =
 
 sub-scheduled : tie.Need-sub-scheduled Inv-loop μ-loop
 sub-scheduled c =
-    let i = c .before .before .before .before .before in
-    rw (c .before .money-at2 .ensures .0) (passed-covers _ _ _ (i .loop-test .taken) (i .before .loop .inv .1))
+    let i = c .before .before .before .before .before .before in
+    rw (c .before .before .money-at2 .ensures .0) (passed-covers _ _ _ (i .loop-test .taken) (i .before .loop .inv .1))
 
 loop-again : tie.Need-loop-again Inv-loop μ-loop
 loop-again c =
-    let p = c .before in
+    let p = c .before .before in
     let t = p .before .before in
     let i = t .before .before in
     let test = sym (t .alone .ensures ∙ ap (λ (x : ℕ). 0 below x && i .before .loop .scheduled .0 is 0) (t .before .money-at .ensures .0)) ∙ p .before .if1 .left in
