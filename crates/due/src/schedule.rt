@@ -61,24 +61,18 @@ fn period_share(period: u32) -> u32
     (65535 + period) / period
 }
 
-// None before the start.
-fn months_since(start: u32, end: u32) -> u32
-    ensures { λ r. ⌜ r ≡ end - start ⌝ }
-{
-    if end < start { 0 } else { end - start }
-}
-
-fn at_most(most: u32, periods: u32) -> u32
-    ensures { λ r. ⌜ r ≡ min most periods ⌝ }
-{
-    if most < periods { most } else { periods }
-}
-
 fn due_by(end: u32, start: u32, share: u32, count: u32) -> u32
     requires { ⌜ (end ≤ 601) × (share ≤ 65536) ⌝ }
     ensures { λ r. ⌜ r ≡ min count ((end - start) * share / 65536) ⌝ }
 {
-    at_most(count, months_since(start, end) * share / 65536)
+    if end < start {
+        return 0;
+    }
+    let periods = (end - start) * share / 65536;
+    if count < periods {
+        return count;
+    }
+    periods
 }
 
 // So many coupons are due by the end of each bucket.

@@ -36,22 +36,16 @@ pub fn four_at(body: &[u8], at: usize) -> u32
         + widened(body[at + 3])
 }
 
-fn wide(x: u8) -> u64
-    ensures { λ r. ⌜ (r ≡ x) × (r < 256) ⌝ }
-{
-    x as u64
-}
-
 // Four bytes at the width of money. Several passes look at an amount: as long as all of them make the same number of its bytes, the compiler loads it once.
 pub fn money_at(body: &[u8], at: usize) -> Thousands
     requires { ⌜ at + 4 ≤ length (now body) ⌝ }
     ensures { λ r. ⌜ (r .0 ≡ four (now (body .entry)) at) × (r .0 < 4294967296) ⌝ }
 {
     Thousands(
-        wide(body[at]) * 16777216
-            + wide(body[at + 1]) * 65536
-            + wide(body[at + 2]) * 256
-            + wide(body[at + 3]),
+        (widened(body[at]) as u64) * 16777216
+            + (widened(body[at + 1]) as u64) * 65536
+            + (widened(body[at + 2]) as u64) * 256
+            + (widened(body[at + 3]) as u64),
     )
 }
 
