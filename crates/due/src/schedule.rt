@@ -88,7 +88,7 @@ fn due_by_ends(start: u32, share: u32, count: u32, by: &mut [u32])
     }
 }
 
-// Two passes, in which no bucket waits for the one before: the compiler writes both out, with the ends as numbers and without a branch.
+// Two passes, in which no bucket waits for the one before: the compiler writes both out, with the ends as numbers.
 fn coupon_row(coupons: Schedule, row: &mut [u64])
     requires { ⌜ Regular coupons ⌝ }
     requires { ⌜ length (now row) ≡ buckets ⌝ }
