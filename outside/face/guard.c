@@ -86,9 +86,9 @@ static void judge_report(const struct outcome *outcome)
 /* "Turned down": what holds of every refusal. */
 static void judge_refusal(const struct outcome *outcome, size_t book_bytes)
 {
-    int before_records = outcome->number >= 16;
+    int before_records = outcome->number >= 16 && outcome->number <= 18;
     uint64_t last_place = before_records ? 0 : outcome->number == 15 ? 8 : book_bytes - 1;
-    demand(outcome->number <= 17, "rooms that are long enough get 1 to 17");
+    demand(outcome->number <= 20 && outcome->number != 18, "rooms that are long enough get 1 to 17, 19 or 20");
     demand(outcome->place <= last_place, "the place is in the book, or a currency");
     demand(all_are(outcome->report, REPORT_CELLS, PATTERN), "a refusal leaves the report untouched");
     demand(all_are(outcome->ledger, LEDGER_CELLS, before_records ? PATTERN : 0),
@@ -108,15 +108,16 @@ static void show_number(uint64_t number)
     switch (number) {
         SEEN(0) SEEN(1) SEEN(2) SEEN(3) SEEN(4) SEEN(5) SEEN(6) SEEN(7) SEEN(8) SEEN(9)
         SEEN(10) SEEN(11) SEEN(12) SEEN(13) SEEN(14) SEEN(15) SEEN(16) SEEN(17)
+        SEEN(19) SEEN(20)
     }
 }
 
 static void show_kinds(const uint8_t *book, size_t bytes)
 {
-    static const size_t lengths[] = {1, 10, 14, 14, 83, 156, 80, 27, 84, 21};
-    for (size_t place = 0; place < bytes && book[place] <= 9; place += lengths[book[place]])
+    static const size_t lengths[] = {1, 10, 14, 14, 83, 156, 80, 27, 84, 21, 82};
+    for (size_t place = 0; place < bytes && book[place] <= 10; place += lengths[book[place]])
         switch (book[place]) {
-            SEEN(1) SEEN(2) SEEN(3) SEEN(4) SEEN(5) SEEN(6) SEEN(7) SEEN(8) SEEN(9)
+            SEEN(1) SEEN(2) SEEN(3) SEEN(4) SEEN(5) SEEN(6) SEEN(7) SEEN(8) SEEN(9) SEEN(10)
         }
 }
 #else
@@ -146,7 +147,8 @@ static void take(const uint8_t *input, size_t bytes)
     else
         judge_refusal(&outcome, bytes - head);
     show_number(outcome.number);
-    show_kinds(input + head, outcome.number == 0 || outcome.number >= 15 ? bytes - head : outcome.place);
+    int told_in_the_book = (outcome.number >= 1 && outcome.number <= 14) || outcome.number >= 19;
+    show_kinds(input + head, told_in_the_book ? outcome.place : bytes - head);
     *(outcome.number == 0 ? &reported : &refused) += 1;
 }
 

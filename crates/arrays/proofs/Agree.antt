@@ -19,7 +19,7 @@ use Rattle.paper.specs.Flow.{scenarios, shocked, adds, magnitude}
 use Rattle.paper.specs.Ledger.{SoFar}
 use Rattle.paper.specs.TurnedDown.{unknownKind, secondCurve, flowsOver, optionsOver, overLimit}
 use Rattle.paper.specs.Fields.{byte, currencyAt}
-use Rattle.paper.specs.Decode.{decodeCurve, decode}
+use Rattle.paper.specs.Decode.{decodeCurve, decodeListedCurve, decode}
 use Rattle.paper.specs.Book.{admitted, recordAt}
 use Rattle.paper.proofs.Checks.{known-of}
 use Rattle.paper.specs.Sound.{Between, Sound}
@@ -60,9 +60,13 @@ module _ (c : ℕ) (x y : SoFar) (agree : Agree c x y) (body : List ℕ) (read :
   unfolding decodeCurve secondCurve _>>=_
   curve-agrees = rw (read, agree .curved)
 
+  listed-curve-agrees : decodeListedCurve currencies (x .curved) body ≡ decodeListedCurve currencies (y .curved) body
+  unfolding decodeListedCurve secondCurve _>>=_
+  listed-curve-agrees = rw (read, agree .curved)
+
   decode-agrees : (kind : ℕ) → decode currencies (x .curved) kind body ≡ decode currencies (y .curved) kind body
   unfolding decode
-  decode-agrees kind = rw curve-agrees
+  decode-agrees kind = rw (curve-agrees, listed-curve-agrees)
 
   over-agrees : (r : Record) → currencyOf r ≡ c → overLimit x r ≡ overLimit y r
   unfolding overLimit flowsOver optionsOver

@@ -25,5 +25,7 @@ pub fn refusal_number(cause: Refusal) -> u32
         Refusal::BadCapital => 16,
         Refusal::BookTooLong => 17,
         Refusal::RoomTooSmall => 18,
+        Refusal::UnknownEdition => 19,
+        Refusal::CodeNotListed => 20,
     }
 }

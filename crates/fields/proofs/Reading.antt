@@ -30,14 +30,14 @@ refused-for e = ap (λ (g : Fault). refused (g .cause) (g .place)) (sym e)
 
 -- an answer: the value that was read, or the fault that is asked of it
 module _ {A F : Type 0} (holds : A → F) (lacks : Fault → F) where
-  reads : {B : Type 0} (shows : B → F) (of : B → A) → ((x : A) (y : B) → holds x ≡ shows y → x ≡ of y) → ((f : Fault) (y : B) → lacks f ≡ shows y → true ≡ false)
+  pub reads : {B : Type 0} (shows : B → F) (of : B → A) → ((x : A) (y : B) → holds x ≡ shows y → x ≡ of y) → ((f : Fault) (y : B) → lacks f ≡ shows y → true ≡ false)
       → {m : Checked A} {r : F} {y : B} → r ≡ answerOf holds lacks m → r ≡ shows y → m ≡ accepted (of y)
   reads shows of same apart {m = accepted x} p e = ap accepted (same x _ (sym p ∙ e))
   reads shows of same apart {m = refused q o} p e =
       let never = apart (fault q o) _ (sym p ∙ e) in
       cc
 
-  lacking : (asked : F → Fault) → ((f : Fault) → asked (lacks f) ≡ f) → ((x : A) (f : Fault) → holds x ≡ lacks f → true ≡ false)
+  pub lacking : (asked : F → Fault) → ((f : Fault) → asked (lacks f) ≡ f) → ((x : A) (f : Fault) → holds x ≡ lacks f → true ≡ false)
       → {m : Checked A} {r : F} {f g : Fault} → r ≡ answerOf holds lacks m → r ≡ lacks g → f ≡ asked r → m ≡ refused (f .cause) (f .place)
   lacking asked given apart {m = accepted x} p e h =
       let never = apart x _ (sym p ∙ e) in

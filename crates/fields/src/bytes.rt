@@ -2,7 +2,7 @@
 ghost use mathlib.Core.Path.{_≡_};
 ghost use Prim.Native.Nat.{_+_, _<_, _≤_};
 ghost use lib.ListN.{length};
-ghost use Rattle.paper.specs.Fields.{byte, two, four, signed};
+ghost use Rattle.paper.specs.Fields.{byte, two, three, four, signed};
 use scales::Thousands;
 
 // The bound is what keeps the sums below within 32 bits.
@@ -24,6 +24,13 @@ pub fn two_at(body: &[u8], at: usize) -> u32
     ensures { λ r. ⌜ (r ≡ two (now (body .entry)) at) × (r < 65536) ⌝ }
 {
     widened(body[at]) * 256 + widened(body[at + 1])
+}
+
+pub fn three_at(body: &[u8], at: usize) -> u32
+    requires { ⌜ at + 3 ≤ length (now body) ⌝ }
+    ensures { λ r. ⌜ r ≡ three (now (body .entry)) at ⌝ }
+{
+    widened(body[at]) * 65536 + widened(body[at + 1]) * 256 + widened(body[at + 2])
 }
 
 pub fn four_at(body: &[u8], at: usize) -> u32

@@ -14,6 +14,7 @@ use portfolio::term_deposit::take_term_deposit;
 use posting::Taken;
 use slotting::coupons::take_coupons;
 use slotting::curves::take_curve;
+use slotting::curves::take_listed_curve;
 use slotting::floating::take_floating;
 use slotting::floating_spread::take_floating_spread;
 use slotting::option_add_on::take_option;
@@ -33,6 +34,7 @@ pub fn body_length(kind: u8) -> usize
         7 => 26,
         8 => 83,
         9 => 20,
+        10 => 81,
         _ => 0,
     }
 }
@@ -63,6 +65,7 @@ pub fn take_body(
         7 => take_option(currency, body, options, addons),
         8 => take_curve(currency, curved, body, rates),
         9 => take_floating_spread(currency, body, section, sizes),
+        10 => take_listed_curve(currency, curved, body, rates),
         _ => Taken::Refused(Fault {
             cause: Refusal::UnknownKind,
             place: 0,
@@ -73,5 +76,5 @@ pub fn take_body(
 pub fn curve_kind(kind: u8) -> bool
     ensures { λ r. ⌜ r ≡ curveKind kind ⌝ }
 {
-    kind == 8
+    kind == 8 || kind == 10
 }

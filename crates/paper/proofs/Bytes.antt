@@ -57,3 +57,7 @@ ratesBody currency all parallel short long = currency ∷ all ++ in2 parallel ++
 -- all rates alike
 abbrev pub curveBody : ℕ → List ℕ → ℕ → ℕ → ℕ → List ℕ
 curveBody currency rate = ratesBody currency (rates 19 rate)
+
+-- an edition, a code and 19 rates
+abbrev pub listedBody : ℕ → ℕ → List ℕ → List ℕ → List ℕ
+listedBody currency edition code all = currency ∷ edition ∷ code ++ all

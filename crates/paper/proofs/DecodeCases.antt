@@ -9,17 +9,19 @@ use Rattle.laws.specs.Tests.{any, first}
 use Rattle.laws.specs.Sums.{sum, total}
 use Rattle.laws.specs.Nearest.{nearest, nearestℤ}
 use Rattle.laws.specs.Series.{factorial}
-use Rattle.paper.specs.declared.Refusal.the-variants.{BadCurrency, BadSide, BadTerm, TooLarge, BadShare, BadCategory, CoreAboveCap, CoreTooLong, InterestAlone, SecondCurve, OutOfRange, OverLimit}
+use Rattle.paper.specs.declared.Refusal.the-variants.{BadCurrency, BadSide, BadTerm, TooLarge, BadShare, BadCategory, CoreAboveCap, CoreTooLong, InterestAlone, SecondCurve, OutOfRange, OverLimit, UnknownEdition, CodeNotListed}
 use Rattle.paper.specs.Ladder.{midpoints}
 use Rattle.paper.specs.Refusals.{Checked, accepted, refused, _>>=_, _>>_, unless}
 use Rattle.paper.specs.Series.{denominator, seriesTerm, numerator, billionOverE}
 use Rattle.paper.specs.Curve.{shortShare, rateChanges, shockedRate}
 use Rattle.paper.specs.Records.{Record, flows, single, coupons, floating, deposit, loan, termDeposit, floatingSpread, option, curve, currencies}
 use Rattle.paper.specs.Behaviour.{weighedCore, scheduledAt}
-use Rattle.paper.specs.TurnedDown.{badCurrency, badSide, badMonths, badDays, badPeriod, badCount, badAmount, badOption, badShare, badCategory, coreAboveCap, coreTooLong, interestAlone, secondCurve, badRate, badShock, badShocked, scheduleOver}
-use Rattle.paper.specs.Fields.{signed, field, each}
-use Rattle.paper.specs.Decode.{decodeSingle, decodeCoupons, decodeFloating, decodeDeposit, decodeLoan, decodeTermDeposit, decodeOption, decodeCurve, decodeFloatingSpread, decode}
-use Rattle.paper.proofs.Bytes.{in4, below4, only, pair, singleBody, couponsBody, floatingBody, floatingSpreadBody, depositBody, loanBody, termDepositBody, optionBody, rates, ratesBody, curveBody}
+use Rattle.paper.specs.TurnedDown.{badCurrency, badSide, badMonths, badDays, badPeriod, badCount, badAmount, badOption, badShare, badCategory, coreAboveCap, coreTooLong, interestAlone, secondCurve, badRate, badShock, badShocked, scheduleOver, unknownEdition, codeNotListed}
+use Rattle.paper.specs.Letters.{D, E, J, N, P, R, S, U, Y, Z}
+use Rattle.paper.specs.Published.{edition1, edition2, listOf, lineOf, shocksFor}
+use Rattle.paper.specs.Fields.{signed, field, listedAt, each}
+use Rattle.paper.specs.Decode.{decodeSingle, decodeCoupons, decodeFloating, decodeDeposit, decodeLoan, decodeTermDeposit, decodeOption, decodeCurve, decodeFloatingSpread, decodeListedCurve, decode}
+use Rattle.paper.proofs.Bytes.{in4, below4, only, pair, singleBody, couponsBody, floatingBody, floatingSpreadBody, depositBody, loanBody, termDepositBody, optionBody, rates, ratesBody, curveBody, listedBody}
 
 pub record Row : Type 0 where
   pub body : Checked Record
@@ -95,8 +97,19 @@ bodies =
     ∷ (freshly 9 (floatingSpreadBody 2 1 589 0 300 7 12 1 1000000001) means refused BadTerm 15)
     ∷ (freshly 9 (floatingSpreadBody 2 1 600 0 300 7 1 1 1000000001) means refused BadTerm 15)
     ∷ (freshly 9 (floatingSpreadBody 2 1 588 30 300 7 12 1 1000000001) means refused TooLarge 17)
+    ∷ (decode currencies (λ c. true) 10 (listedBody 9 3 (N ∷ Z ∷ D ∷ []) (rates 19 (below4 50001))) means refused BadCurrency 1)
+    ∷ (decode currencies (λ c. true) 10 (listedBody 8 3 (N ∷ Z ∷ D ∷ []) (rates 19 (below4 50001))) means refused SecondCurve 0)
+    ∷ (freshly 10 (listedBody 8 3 (N ∷ Z ∷ D ∷ []) (rates 19 (below4 50001))) means refused UnknownEdition 0)
+    ∷ (freshly 10 (listedBody 8 0 (U ∷ S ∷ D ∷ []) (rates 19 (in4 0))) means refused UnknownEdition 0)
+    ∷ (freshly 10 (listedBody 8 1 (N ∷ Z ∷ D ∷ []) (rates 19 (below4 50001))) means refused CodeNotListed 0)
+    ∷ (freshly 10 (listedBody 8 1 (117 ∷ 115 ∷ 100 ∷ []) (rates 19 (in4 0))) means refused CodeNotListed 0)
+    ∷ (freshly 10 (listedBody 8 2 (U ∷ S ∷ 32 ∷ []) (rates 19 (in4 0))) means refused CodeNotListed 0)
+    ∷ (freshly 10 (listedBody 8 1 (U ∷ S ∷ D ∷ []) (rates 18 (in4 0) ++ in4 300001)) means refused OutOfRange 78)
+    ∷ (freshly 10 (listedBody 8 2 (J ∷ P ∷ Y ∷ []) (rates 1 (in4 0) ++ in4 290001 ++ rates 17 (in4 0))) means refused OutOfRange 10)
+    ∷ (freshly 10 (listedBody 8 1 (E ∷ U ∷ R ∷ []) (rates 19 (in4 0))) means accepted (curve 8 (record { rates = replicate 19 (pos 0); shocks = record { parallel = 200; short = 250; long = 100 } })))
+    ∷ (freshly 10 (listedBody 8 2 (E ∷ U ∷ R ∷ []) (rates 19 (in4 0))) means accepted (curve 8 (record { rates = replicate 19 (pos 0); shocks = record { parallel = 225; short = 350; long = 200 } })))
     ∷ []
 
 pub bodies-mean : map (λ r. r .body) bodies ≡ map (λ r. r .is) bodies
-unfolding bodies rates any first sum total nearest nearestℤ factorial midpoints _>>=_ _>>_ unless denominator seriesTerm numerator billionOverE shortShare rateChanges shockedRate weighedCore scheduledAt badCurrency badSide badMonths badDays badPeriod badCount badAmount badOption badShare badCategory coreAboveCap coreTooLong interestAlone secondCurve badRate badShock badShocked scheduleOver signed field each decodeSingle decodeCoupons decodeFloating decodeDeposit decodeLoan decodeTermDeposit decodeOption decodeCurve decodeFloatingSpread decode
+unfolding bodies rates any first sum total nearest nearestℤ factorial midpoints _>>=_ _>>_ unless denominator seriesTerm numerator billionOverE shortShare rateChanges shockedRate weighedCore scheduledAt badCurrency badSide badMonths badDays badPeriod badCount badAmount badOption badShare badCategory coreAboveCap coreTooLong interestAlone secondCurve badRate badShock badShocked scheduleOver signed field each unknownEdition codeNotListed edition1 edition2 listOf lineOf shocksFor listedAt decodeSingle decodeCoupons decodeFloating decodeDeposit decodeLoan decodeTermDeposit decodeOption decodeCurve decodeFloatingSpread decodeListedCurve decode
 bodies-mean = refl

@@ -13,18 +13,28 @@ use Rattle.paper.specs.declared.Refusal.the-variants.{UnknownKind}
 use Rattle.paper.specs.Refusals.{numberOf, ofField, Checked, refused}
 use Rattle.paper.specs.Ladder.{buckets}
 use Rattle.paper.specs.Records.{Record, option, curve, kinds, bodyLength, currencyOf, isCurve, curveKind}
+use Rattle.paper.specs.Curve.{Curve}
 use Rattle.paper.specs.Flow.{flow, adds, gives}
+use Rattle.paper.specs.Published.{Size}
 use Rattle.paper.specs.TurnedDown.{unknownKind, interestAlone, secondCurve, scheduleOver}
-use Rattle.paper.specs.Decode.{decodeSingle, decodeCoupons, decodeFloating, decodeDeposit, decodeLoan, decodeTermDeposit, decodeOption, decodeCurve, decodeFloatingSpread, decode}
+use Rattle.paper.specs.Decode.{decodeSingle, decodeCoupons, decodeFloating, decodeDeposit, decodeLoan, decodeTermDeposit, decodeOption, decodeCurve, decodeFloatingSpread, decodeListedCurve, drawn, decode}
 use Rattle.paper.specs.Book.{touchesNothing}
-use Rattle.paper.specs.Sound.{SoundFlows, Sound}
-use Rattle.paper.proofs.Checks.{in-field, in-whole, known, chain, tested, tested-there, each-known}
+use Rattle.paper.specs.Sound.{Between, Ranged, Listed, SoundFlows, Sound}
+use Rattle.paper.proofs.Checks.{Checks, Inside, in-field, in-whole, known, chain, tested, tested-there, each-known}
 use Rattle.paper.proofs.Ranges.{side-known, months-known, days-known, period-known, count-known, amount-known, option-known, share-known, category-known, shock-known, amounts-known, rates-known, none-bad, shocked-ranged}
-use Rattle.paper.proofs.KindLaws.{FlowsOnly, AddOnOnly, CurveOnly, Kind, begins, flows-read, FirstField, of-kind, no-kind}
+use Rattle.paper.proofs.Published.{listed-known}
+use Rattle.paper.proofs.KindLaws.{FlowsOnly, AddOnOnly, CurveOnly, Kind, Reads, begins, flows-read, FirstField, of-kind, no-kind}
 
 -- a bucket's field, where a body has room for a field of each bucket
 four-each : (bytes o k : ℕ) → (k below buckets) ≡ true → o + 4 * buckets ≤ bytes → o + 4 * k < bytes
 four-each bytes o k t l = omega (arith, ltb-true k buckets t)
+
+-- shocks that lie in the range of typed ones
+abbrev Shocked : Curve → Type 0
+Shocked z = Between 0 1000 (z .shocks .parallel) × Between 0 1000 (z .shocks .short) × Between 0 1000 (z .shocks .long)
+
+as-typed : {shock : ℕ} → Size shock → Between 0 1000 shock
+as-typed s = record { from = omega arith; to = omega (arith, s .1) }
 
 module _ (top : ℕ) (curved : ℕ → Bool) (body : List ℕ) where
   pub single-kind : Kind top curved FlowsOnly 9 body (decodeSingle top body)
@@ -97,8 +107,20 @@ module _ (top : ℕ) (curved : ℕ → Bool) (body : List ℕ) where
       chain (each-known 6 2 (λ o l. option-known body o (omega arith))) (λ vs hv.
       known {a = option c s vs} (record { own = refl; only = record { position = refl; no-flow = λ i k. refl; no-rate = λ i k. refl }; sound = (hc, hs, hv) }))))
 
+  -- a curve of a fresh currency, its rates from o on
+  drawn-known : {bytes c : ℕ} (o : ℕ) (z : Curve) → o + 4 * buckets ≤ bytes → Between 1 top c → curved c ≡ false → Listed Ranged buckets (z .rates) → Shocked z
+      → Checks (Inside bytes) (Reads top curved CurveOnly c) (drawn c z o)
+  unfolding Sound currencyOf isCurve flow adds touchesNothing numberOf ofField
+  drawn-known {c = c} o z l hc e hr (hp, hh, hg) =
+      tested-there _ _ _ _ (λ t. in-field refl refl (four-each _ o _ t l)) (λ f.
+      known {a = curve c z} (record {
+        own = refl;
+        only = record { curved = refl; no-flow = λ i k. refl; no-add-on = λ i. refl };
+        sound = (hc, record { fresh = e; base = hr; parallel = hp; short = hh; long = hg; shocked = shocked-ranged _ hr (none-bad _ f) });
+      }))
+
   pub curve-kind : Kind top curved CurveOnly 83 body (decodeCurve top curved body)
-  unfolding decodeCurve Sound secondCurve currencyOf isCurve flow adds touchesNothing numberOf ofField
+  unfolding decodeCurve secondCurve touchesNothing numberOf ofField
   curve-kind =
       begins top body (omega arith) (λ c hc.
       tested _ _ _ _ (in-whole refl refl) (λ e.
@@ -106,12 +128,7 @@ module _ (top : ℕ) (curved : ℕ → Bool) (body : List ℕ) where
       chain (shock-known body 77 (omega arith)) (λ p hp.
       chain (shock-known body 79 (omega arith)) (λ h hh.
       chain (shock-known body 81 (omega arith)) (λ g hg.
-      tested-there _ _ _ _ (λ t. in-field refl refl (four-each _ 1 _ t (omega arith))) (λ f.
-      known {a = curve c _} (record {
-        own = refl;
-        only = record { curved = refl; no-flow = λ i k. refl; no-add-on = λ i. refl };
-        sound = (hc, record { fresh = e; base = hr; parallel = hp; short = hh; long = hg; shocked = shocked-ranged _ hr (none-bad _ f) });
-      }))))))))
+      drawn-known 1 _ (omega arith) hc e hr (hp, hh, hg)))))))
 
   pub floating-spread-kind : Kind top curved FlowsOnly 20 body (decodeFloatingSpread top body)
   unfolding decodeFloatingSpread SoundFlows
@@ -126,6 +143,15 @@ module _ (top : ℕ) (curved : ℕ → Bool) (body : List ℕ) where
       chain (count-known body 14 (omega arith) m p) (λ n hn.
       chain (amount-known body 16 (omega arith)) (λ x hx.
       flows-read hc (hs, (hm, hd), ha, hb, hp, hn, hx))))))))))
+
+  pub listed-curve-kind : Kind top curved CurveOnly 81 body (decodeListedCurve top curved body)
+  unfolding decodeListedCurve secondCurve touchesNothing numberOf ofField
+  listed-curve-kind =
+      begins top body (omega arith) (λ c hc.
+      tested _ _ _ _ (in-whole refl refl) (λ e.
+      chain (listed-known body 1) (λ s hs.
+      chain (rates-known body 5 (omega arith)) (λ rs hr.
+      drawn-known 5 _ (omega arith) hc e hr (as-typed (hs .0), as-typed (hs .1), as-typed (hs .2))))))
 
 -- ---- the table, row by row: the length of a body and its decoder; and none of them
 
@@ -170,12 +196,16 @@ module _ (top : ℕ) (curved : ℕ → Bool) where
   unfolding bodyLength kinds decode
   row-9 = record { long = refl; decodes = λ body. refl }
 
+  pub row-10 : Row top 10 81 curved (decodeListedCurve top curved)
+  unfolding bodyLength kinds decode
+  row-10 = record { long = refl; decodes = λ body. refl }
+
 pub row-length : {code kind bytes : ℕ} {top : ℕ} {curved : ℕ → Bool} {decodeIt : List ℕ → Checked Record} → Row top kind bytes curved decodeIt → code ≡ kind → bytes ≡ bodyLength code
 row-length of here = sym (ap bodyLength here ∙ of .long)
 
 -- kinds are 1 to this
 abbrev lastKind : ℕ
-lastKind = 9
+lastKind = 10
 
 -- none of 1 to n
 abbrev pub NoneUpTo : ℕ → ℕ → Type 0
@@ -207,6 +237,7 @@ none-decoded top curved kind body f =
       other 7 (omega arith),
       other 8 (omega arith),
       other 9 (omega arith),
+      other 10 (omega arith),
     )
   where
     other : (n : ℕ) → (1 ≤ n) × (n ≤ lastKind) → (kind is n) ≡ false
@@ -239,4 +270,5 @@ module _ (top : ℕ) (curved : ℕ → Bool) (kind : ℕ) (body : List ℕ) wher
       at 7 (λ e. of-kind e refl (λ r only. only .position) (option-kind top curved body)) (λ n7.
       at 8 (λ e. of-kind e refl (λ r only. only .curved) (curve-kind top curved body)) (λ n8.
       at 9 (λ e. of-kind e refl (λ r only. only .position) (floating-spread-kind top curved body)) (λ n9.
-      no-kind (in-whole refl refl) (no-length (none-such kind (((((((((tt, n1), n2), n3), n4), n5), n6), n7), n8), n9))))))))))))
+      at 10 (λ e. of-kind e refl (λ r only. only .curved) (listed-curve-kind top curved body)) (λ n10.
+      no-kind (in-whole refl refl) (no-length (none-such kind ((((((((((tt, n1), n2), n3), n4), n5), n6), n7), n8), n9), n10)))))))))))))

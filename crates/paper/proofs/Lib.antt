@@ -16,6 +16,7 @@ pub mod Limits
 pub mod Numbers
 pub mod Checks
 pub mod Ranges
+pub mod Published
 pub mod KindLaws
 pub mod KindTable
 pub mod Rate

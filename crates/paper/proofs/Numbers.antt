@@ -4,14 +4,14 @@ use mathlib.Core.List.{List, [], _∷_}
 use mathlib.Core.Path.{_≡_, refl, sym, ap, _∙_}
 use lib.ListN.{getD}
 use Rattle.paper.specs.declared.Refusal.{Refusal}
-use Rattle.paper.specs.declared.Refusal.the-variants.{UnknownKind, CutShort, BadCurrency, BadSide, BadTerm, TooLarge, BadShare, BadCategory, CoreAboveCap, CoreTooLong, InterestAlone, SecondCurve, OutOfRange, OverLimit, NoCurve, BadCapital, BookTooLong, RoomTooSmall}
+use Rattle.paper.specs.declared.Refusal.the-variants.{UnknownKind, CutShort, BadCurrency, BadSide, BadTerm, TooLarge, BadShare, BadCategory, CoreAboveCap, CoreTooLong, InterestAlone, SecondCurve, OutOfRange, OverLimit, NoCurve, BadCapital, BookTooLong, RoomTooSmall, UnknownEdition, CodeNotListed}
 use Rattle.paper.specs.Refusals.{numberOf}
 
 -- the causes in the order of their numbers, after one for 0
 causes : List Refusal
 causes =
     UnknownKind ∷ UnknownKind ∷ CutShort ∷ BadCurrency ∷ BadSide ∷ BadTerm ∷ TooLarge ∷ BadShare ∷ BadCategory ∷ CoreAboveCap ∷ CoreTooLong
-    ∷ InterestAlone ∷ SecondCurve ∷ OutOfRange ∷ OverLimit ∷ NoCurve ∷ BadCapital ∷ BookTooLong ∷ RoomTooSmall ∷ []
+    ∷ InterestAlone ∷ SecondCurve ∷ OutOfRange ∷ OverLimit ∷ NoCurve ∷ BadCapital ∷ BookTooLong ∷ RoomTooSmall ∷ UnknownEdition ∷ CodeNotListed ∷ []
 
 cause : ℕ → Refusal
 cause n = getD causes n UnknownKind
@@ -36,6 +36,8 @@ cause-of NoCurve = refl
 cause-of BadCapital = refl
 cause-of BookTooLong = refl
 cause-of RoomTooSmall = refl
+cause-of UnknownEdition = refl
+cause-of CodeNotListed = refl
 
 pub one-refusal : (a b : Refusal) → numberOf a ≡ numberOf b → a ≡ b
 one-refusal a b e = sym (cause-of a) ∙ ap cause e ∙ cause-of b

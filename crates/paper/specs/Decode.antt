@@ -9,7 +9,15 @@ use Rattle.paper.specs.Refusals.{Checked, accepted, refused, _>>=_, _>>_
 use Rattle.paper.specs.Curve.{Curve}
 use Rattle.paper.specs.Records.{Record, flows, option, curve, single, coupons, floating, deposit, loan, termDeposit, floatingSpread}
 use Rattle.paper.specs.TurnedDown.{coreAboveCap, coreTooLong, interestAlone, secondCurve, badShocked, scheduleOver}
-use Rattle.paper.specs.Fields.{currencyAt, sideAt, monthsAt, daysAt, periodAt, countAt, amountAt, optionAt, shareAt, categoryAt, rateAt, shockAt, each}
+use Rattle.paper.specs.Fields.{currencyAt, sideAt, monthsAt, daysAt, periodAt, countAt, amountAt, optionAt, shareAt, categoryAt, rateAt, shockAt, listedAt, each}
+
+-- a curve whose rates begin at o in the body: shocked rates come last
+abbrev pub drawn : ℕ → Curve → ℕ → Checked Record
+drawn currency z o =
+    let k = first (badShocked z) 0 buckets in
+    do
+      refuseIf (k below buckets) OutOfRange (suc (o + 4 * k))
+      accepted (curve currency z)
 
 module _ (top : ℕ) where
   -- 1: currency, side, months (2), days (1), amount
@@ -83,7 +91,7 @@ module _ (top : ℕ) where
     values ← each (optionAt body) 6 2
     accepted (option currency side values)
 
-  -- 8: currency, 19 signed rates, parallel, short, long shock (2 each). 12 comes after the currency, and shocked rates last
+  -- 8: currency, 19 signed rates, parallel, short, long shock (2 each). 12 comes after the currency
   unfoldable pub decodeCurve : (ℕ → Bool) → List ℕ → Checked Record
   decodeCurve curved body = do
     currency ← currencyAt top body 0
@@ -92,10 +100,7 @@ module _ (top : ℕ) where
     parallel ← shockAt body 77
     short ← shockAt body 79
     long ← shockAt body 81
-    let z : Curve = record { rates = rates; shocks = record { parallel = parallel; short = short; long = long } }
-    let k = first (badShocked z) 0 buckets
-    refuseIf (k below buckets) OutOfRange (suc (1 + 4 * k))
-    accepted (curve currency z)
+    drawn currency (record { rates = rates; shocks = record { parallel = parallel; short = short; long = long } }) 1
 
   -- 9 (02, request 1): as kind 3; then period (1), count (2), spread. The last month is counted from the reset
   unfoldable pub decodeFloatingSpread : List ℕ → Checked Record
@@ -111,6 +116,15 @@ module _ (top : ℕ) where
     spread ← amountAt body 16
     accepted (flows currency (floatingSpread side (record { months = months; days = days }) principal coupon period count spread))
 
+  -- 10 (02, request 5): currency, edition (1), code (3), 19 signed rates; the shocks are those listed. 12 comes after the currency
+  unfoldable pub decodeListedCurve : (ℕ → Bool) → List ℕ → Checked Record
+  decodeListedCurve curved body = do
+    currency ← currencyAt top body 0
+    refuseIf (secondCurve curved currency) SecondCurve 0
+    shocks ← listedAt body 1
+    rates ← each (rateAt body) buckets 5
+    drawn currency (record { rates = rates; shocks = shocks }) 5
+
   -- by the kind, told which currencies have a curve
   unfoldable pub decode : (ℕ → Bool) → ℕ → List ℕ → Checked Record
   decode curved kind body =
@@ -123,4 +137,5 @@ module _ (top : ℕ) where
       if kind is 7 then decodeOption body else
       if kind is 8 then decodeCurve curved body else
       if kind is 9 then decodeFloatingSpread body else
+      if kind is 10 then decodeListedCurve curved body else
       refused UnknownKind 0

@@ -7,15 +7,20 @@ use lib.IntN.{ℤ, pos, _-ℤ_}
 use lib.ListN.{getD}
 use Rattle.laws.specs.Tests.{if_then_else_, _below_}
 use Rattle.paper.specs.declared.Refusal.{Refusal}
-use Rattle.paper.specs.declared.Refusal.the-variants.{BadCurrency, BadSide, BadTerm, TooLarge, BadShare, BadCategory, OutOfRange}
-use Rattle.paper.specs.Refusals.{Checked, accepted, _>>=_, unless}
-use Rattle.paper.specs.TurnedDown.{badCurrency, badSide, badMonths, badDays, badPeriod, badCount, badAmount, badOption, badShare, badCategory, badRate, badShock}
+use Rattle.paper.specs.declared.Refusal.the-variants.{BadCurrency, BadSide, BadTerm, TooLarge, BadShare, BadCategory, OutOfRange, UnknownEdition, CodeNotListed}
+use Rattle.paper.specs.Refusals.{Checked, accepted, _>>=_, _>>_, unless, refuseIf}
+use Rattle.paper.specs.Curve.{Shocks}
+use Rattle.paper.specs.Published.{codeOf, listOf, shocksFor}
+use Rattle.paper.specs.TurnedDown.{badCurrency, badSide, badMonths, badDays, badPeriod, badCount, badAmount, badOption, badShare, badCategory, badRate, badShock, unknownEdition, codeNotListed}
 
 abbrev pub byte : List ℕ → ℕ → ℕ
 byte body o = getD body o 0
 
 abbrev pub two : List ℕ → ℕ → ℕ
 two body o = byte body o * 256 + byte body (o + 1)
+
+abbrev pub three : List ℕ → ℕ → ℕ
+three body o = codeOf (byte body o) (byte body (o + 1)) (byte body (o + 2))
 
 abbrev pub four : List ℕ → ℕ → ℕ
 four body o = byte body o * 16777216 + byte body (o + 1) * 65536 + byte body (o + 2) * 256 + byte body (o + 3)
@@ -63,6 +68,16 @@ rateAt body o = field badRate OutOfRange o (signed (four body o))
 
 abbrev pub shockAt : List ℕ → ℕ → Checked ℕ
 shockAt body o = field badShock OutOfRange o (two body o)
+
+-- an edition (1) and a code (3): the shocks that are listed. 19 and 20 are told of the record as a whole
+unfoldable pub listedAt : List ℕ → ℕ → Checked Shocks
+listedAt body o =
+    let edition = byte body o in
+    let code = three body (o + 1) in
+    do
+      refuseIf (unknownEdition edition) UnknownEdition 0
+      refuseIf (codeNotListed edition code) CodeNotListed 0
+      accepted (shocksFor (listOf edition) code)
 
 -- n fields of four bytes each, from o on
 unfoldable pub each : {A : Type 0} → (ℕ → Checked A) → ℕ → ℕ → Checked (List A)

@@ -13,6 +13,9 @@ pub mod Flow
 -- Curves and shocks
 pub mod Series
 pub mod Curve
+-- Published shock sizes (02, request 5)
+pub mod Letters
+pub mod Published
 -- Discount factor, in billionths
 pub mod Factor
 -- From flows to verdict, and demand 3

@@ -1,6 +1,6 @@
 -- Records: one byte of kind, then a body whose length the kind fixes.
 use Prim.Native.Nat.{ℕ}
-use mathlib.Core.Bool.{Bool, true, false}
+use mathlib.Core.Bool.{Bool, true, false, _||_}
 use mathlib.Core.List.{List, [], _∷_}
 use lib.IntN.{ℤ}
 use lib.ListN.{getD}
@@ -14,7 +14,7 @@ currencies = 8
 
 -- the kinds: body bytes of 1, 2, .. in turn
 unfoldable pub kinds : List ℕ
-kinds = 9 ∷ 13 ∷ 13 ∷ 82 ∷ 155 ∷ 79 ∷ 26 ∷ 83 ∷ 20 ∷ []
+kinds = 9 ∷ 13 ∷ 13 ∷ 82 ∷ 155 ∷ 79 ∷ 26 ∷ 83 ∷ 20 ∷ 81 ∷ []
 
 -- 0 where there is no such kind
 unfoldable pub bodyLength : ℕ → ℕ
@@ -22,7 +22,7 @@ bodyLength kind = getD (0 ∷ kinds) kind 0
 
 -- the kinds that are curves; all others are positions
 unfoldable pub curveKind : ℕ → Bool
-curveKind kind = kind is 8
+curveKind kind = kind is 8 || kind is 10
 
 -- kinds 1 to 6 and 9: what has flows. Lists of amounts are by bucket
 pub data Flows : Type 0 where
@@ -34,7 +34,7 @@ pub data Flows : Type 0 where
   termDeposit : (share : ℕ) → (amounts : List ℕ) → Flows
   floatingSpread : (side : ℕ) → (reset : Term) → (principal coupon period count spread : ℕ) → Flows
 
--- of a currency: flows (kinds 1 to 6 and 9), an option add-on (7), a curve (8). All but a curve are positions
+-- of a currency: flows (kinds 1 to 6 and 9), an option add-on (7), a curve (8 and 10). All but a curve are positions
 pub data Record : Type 0 where
   flows : (currency : ℕ) → Flows → Record
   option : (currency side : ℕ) → (values : List ℤ) → Record

@@ -3,7 +3,7 @@ use Prim.Native.Nat.{ℕ}
 use mathlib.Core.Bool.{Bool, true, false, _&&_, _||_}
 use Rattle.laws.specs.Tests.{_is_, _upTo_}
 use Rattle.paper.specs.declared.Refusal.{Refusal}
-use Rattle.paper.specs.declared.Refusal.the-variants.{UnknownKind, CutShort, BadCurrency, BadSide, BadTerm, TooLarge, BadShare, BadCategory, CoreAboveCap, CoreTooLong, InterestAlone, SecondCurve, OutOfRange, OverLimit, NoCurve, BadCapital, BookTooLong, RoomTooSmall}
+use Rattle.paper.specs.declared.Refusal.the-variants.{UnknownKind, CutShort, BadCurrency, BadSide, BadTerm, TooLarge, BadShare, BadCategory, CoreAboveCap, CoreTooLong, InterestAlone, SecondCurve, OutOfRange, OverLimit, NoCurve, BadCapital, BookTooLong, RoomTooSmall, UnknownEdition, CodeNotListed}
 
 unfoldable pub numberOf : Refusal → ℕ
 numberOf UnknownKind = 1
@@ -24,6 +24,8 @@ numberOf NoCurve = 15
 numberOf BadCapital = 16
 numberOf BookTooLong = 17
 numberOf RoomTooSmall = 18
+numberOf UnknownEdition = 19
+numberOf CodeNotListed = 20
 
 -- 3 to 8, 11 and 13 are told at a field, the others of a record at its first byte (02, request 2): that the walk does so is a theorem, `record-inside`
 unfoldable pub ofField : Refusal → Bool

@@ -4,11 +4,12 @@ use mathlib.Core.Bool.{Bool, not, _&&_, _||_}
 use mathlib.Core.List.{List}
 use lib.IntN.{ℤ, pos, negℤ, natAbs}
 use lib.Signed.{ltZ}
-use lib.ListN.{getD}
+use lib.ListN.{length, getD}
 use Rattle.laws.specs.Tests.{_is_, _upTo_, _below_, any}
 use Rattle.laws.specs.Sums.{sumOf}
 use Rattle.paper.specs.Scales.{billion}
 use Rattle.paper.specs.Curve.{Curve, shockedRate}
+use Rattle.paper.specs.Published.{listOf, lineOf}
 use Rattle.paper.specs.Records.{Record, currencyOf, bodyLength}
 use Rattle.paper.specs.Behaviour.{coreCap, averageCap, weighedCore, scheduledAt}
 use Rattle.paper.specs.Flow.{adds, magnitude}
@@ -117,3 +118,11 @@ bookTooLong bytes = longestBook below bytes
 -- 18: report room below 58 or ledger room below 1,064
 unfoldable pub roomTooSmall : ℕ → ℕ → ℕ → Bool
 roomTooSmall top reportRoom ledgerRoom = reportRoom below figures top || ledgerRoom below cells top
+
+-- 19: unknown edition
+unfoldable pub unknownEdition : ℕ → Bool
+unknownEdition edition = not (1 upTo edition && edition upTo 2)
+
+-- 20: code not in that edition
+unfoldable pub codeNotListed : ℕ → ℕ → Bool
+codeNotListed edition code = not (lineOf (listOf edition) code below length (listOf edition))

@@ -67,6 +67,8 @@ pub enum Refusal {
     BadCapital,
     BookTooLong,
     RoomTooSmall,
+    UnknownEdition,
+    CodeNotListed,
 }
 
 // A cause, and the place of what is at fault.

@@ -149,11 +149,11 @@ one-option = one ofOption.Is ofOption.Refused optionRead (λ s. option (s .curre
     let at : ℕ → SignedThousands = λ j. signedThousands (getD (values i) j (pos 0)) in
     record { currency = currency i; side = side i; up = at 0; down = at 1; steepener = at 2; flattener = at 3; «short_up» = at 4; «short_down» = at 5 })
 
-pub one-curve : (body : List ℕ) (a b : DecodedCurve) → curveRead body a ≡ curveRead body b → a ≡ b
+pub one-curve : (body : List ℕ) (o : ℕ) (a b : DecodedCurve) → curveRead body o a ≡ curveRead body o b → a ≡ b
 unfolding curveRead
-one-curve body = one ofCurve.Is ofCurve.Refused (curveRead body) (λ s. curve (s .currency) (curveOf (ratesFrom body 1) (s .shocks))) (λ s. refl) (λ f. refl)
+one-curve body o = one ofCurve.Is ofCurve.Refused (curveRead body o) (λ s. curve (s .currency) (curveOf (ratesFrom body o) (s .shocks))) (λ s. refl) (λ f. refl)
     (λ d. elim d [ ofCurve.Is s ↦ inl (s, refl) | ofCurve.Refused f ↦ inr (f, refl) ])
     (λ s t e.
     let currency : s .currency ≡ t .currency = cc in
-    let drawn : curveOf (ratesFrom body 1) (s .shocks) ≡ curveOf (ratesFrom body 1) (t .shocks) = cc in
+    let drawn : curveOf (ratesFrom body o) (s .shocks) ≡ curveOf (ratesFrom body o) (t .shocks) = cc in
     λ i. record { currency = currency i; shocks = record { parallel = drawn i .shocks .parallel; short = drawn i .shocks .short; long = drawn i .shocks .long } })

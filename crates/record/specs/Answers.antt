@@ -8,8 +8,9 @@ use Rattle.paper.specs.declared.Fault.{Fault}
 use Rattle.paper.specs.Refusals.{Checked, accepted, refused}
 use Rattle.paper.specs.Records.{Record, Flows, flows, option, curve, single, coupons, floating, deposit, loan, termDeposit, floatingSpread, currencies}
 use Rattle.paper.specs.Fields.{currencyAt}
+use Rattle.curve.specs.declared.Shocks.{Shocks}
 use Rattle.curve.specs.Shocked.{curveOf}
-use Rattle.fields.specs.Answers.{none, amountsFrom, ratesFrom}
+use Rattle.fields.specs.Answers.{none, answerOf, amountsFrom, ratesFrom}
 use Rattle.record.specs.declared.single.Single.{Single}
 use Rattle.record.specs.declared.single.DecodedSingle.{DecodedSingle}
 use Rattle.record.specs.declared.single.DecodedSingle.the-variants as ofSingle
@@ -110,6 +111,11 @@ unfoldable pub optionRead : DecodedOption → Checked Record
 optionRead (ofOption.Is s) = accepted (option (s .currency) (s .side) (valuesOf s))
 optionRead (ofOption.Refused f) = refused (f .cause) (f .place)
 
-unfoldable pub curveRead : List ℕ → DecodedCurve → Checked Record
-curveRead body (ofCurve.Is s) = accepted (curve (s .currency) (curveOf (ratesFrom body 1) (s .shocks)))
-curveRead body (ofCurve.Refused f) = refused (f .cause) (f .place)
+-- a curve's rates begin at o in the body: at 1 in kind 8, at 5 in kind 10
+unfoldable pub curveRead : List ℕ → ℕ → DecodedCurve → Checked Record
+curveRead body o (ofCurve.Is s) = accepted (curve (s .currency) (curveOf (ratesFrom body o) (s .shocks)))
+curveRead body o (ofCurve.Refused f) = refused (f .cause) (f .place)
+
+-- such a curve, or the fault in its shocked rates
+abbrev pub drawnOf : ℕ → Shocks → Checked Record → DecodedCurve
+drawnOf currency shocks = answerOf (λ _. ofCurve.Is (record { currency = currency; shocks = shocks })) ofCurve.Refused

@@ -15,11 +15,13 @@ use Rattle.paper.specs.Records.{Record, kinds, bodyLength, currencyOf, isCurve,
 use Rattle.paper.specs.Behaviour.{prepaymentMultipliers, withdrawalMultipliers, behaviouralRate, weighedCore, depositFlow, paid, prepaid, interest, outstandingAt, scheduledAt, paidAt, prepaidAt, interestAt, loanFlow, moved, termDepositFlow}
 use Rattle.paper.specs.Flow.{sided, due, couponsDue, flowOf, flow, adds, magnitude}
 use Rattle.paper.specs.Ledger.{ofCurrency, used, curved}
-use Rattle.paper.specs.TurnedDown.{unknownKind, cutShort, badCurrency, badSide, badMonths, badDays, badPeriod, badCount, badAmount, badOption, badShare, badCategory, coreAboveCap, coreTooLong, interestAlone, secondCurve, badRate, badShock, badShocked, scheduleOver, flowsOver, optionsOver, overLimit, lacksCurve, badCapital, bookTooLong, roomTooSmall}
-use Rattle.paper.specs.Fields.{signed, field, each}
-use Rattle.paper.specs.Decode.{decodeSingle, decodeCoupons, decodeFloating, decodeDeposit, decodeLoan, decodeTermDeposit, decodeOption, decodeCurve, decodeFloatingSpread, decode}
+use Rattle.paper.specs.TurnedDown.{unknownKind, cutShort, badCurrency, badSide, badMonths, badDays, badPeriod, badCount, badAmount, badOption, badShare, badCategory, coreAboveCap, coreTooLong, interestAlone, secondCurve, badRate, badShock, badShocked, scheduleOver, flowsOver, optionsOver, overLimit, lacksCurve, badCapital, bookTooLong, roomTooSmall, unknownEdition, codeNotListed}
+use Rattle.paper.specs.Letters.{D, J, N, P, Y, Z}
+use Rattle.paper.specs.Published.{edition1, edition2, listOf, lineOf, shocksFor}
+use Rattle.paper.specs.Fields.{signed, field, listedAt, each}
+use Rattle.paper.specs.Decode.{decodeSingle, decodeCoupons, decodeFloating, decodeDeposit, decodeLoan, decodeTermDeposit, decodeOption, decodeCurve, decodeFloatingSpread, decodeListedCurve, decode}
 use Rattle.paper.specs.Book.{placed, admitted, recordAt, nextAt, walkFrom, walk, covered, outcome}
-use Rattle.paper.proofs.Bytes.{in4, below4, only, pair, singleBody, couponsBody, floatingBody, floatingSpreadBody, depositBody, loanBody, termDepositBody, optionBody, rates, curveBody}
+use Rattle.paper.proofs.Bytes.{in4, below4, only, pair, singleBody, couponsBody, floatingBody, floatingSpreadBody, depositBody, loanBody, termDepositBody, optionBody, rates, curveBody, listedBody}
 
 -- ends as: number 0 and the count of records kept, or the refusal's number and place
 pub record Ending : Type 0 where
@@ -45,6 +47,9 @@ roomed book T reportRoom ledgerRoom number place =
 abbrev curve : ℕ → List ℕ
 curve c = 8 ∷ curveBody c (in4 0) 400 0 0
 
+abbrev listed : ℕ → List ℕ
+listed c = 10 ∷ listedBody c 1 (J ∷ P ∷ Y ∷ []) (rates 19 (in4 0))
+
 abbrev asset : ℕ → ℕ → List ℕ
 asset c amount = 1 ∷ singleBody c 1 12 0 amount
 
@@ -62,8 +67,9 @@ books =
     ∷ ends [] 0 0
     ∷ ends (0 ∷ []) 1 0
     ∷ ends (asset 1 5 ++ (255 ∷ [])) 1 10
-    ∷ ends (asset 1 5 ++ (10 ∷ [])) 1 10
+    ∷ ends (asset 1 5 ++ (11 ∷ [])) 1 10
     ∷ ends (1 ∷ []) 2 0
+    ∷ ends (asset 1 5 ++ (10 ∷ replicate 80 255)) 2 10
     ∷ ends (asset 1 5 ++ (9 ∷ replicate 19 255)) 2 10
     ∷ ends (asset 1 5 ++ (5 ∷ replicate 154 255)) 2 10
     ∷ ends (1 ∷ singleBody 9 1 12 0 5) 3 1
@@ -92,6 +98,20 @@ books =
     ∷ ends (asset 1 5 ++ (9 ∷ floatingSpreadBody 1 2 12 1 400000000 99999995 12 2 250000000) ++ curve 1) 0 3
     ∷ []
 
+-- kind 10, in a table of its own, because a claim may take so many steps and no more
+unfoldable pub listedBooks : List Row
+listedBooks =
+    ends (curve 1 ++ listed 1) 12 84
+    ∷ ends (listed 1 ++ curve 1) 12 82
+    ∷ ends (asset 1 5 ++ (10 ∷ listedBody 1 3 (N ∷ Z ∷ D ∷ []) (rates 19 (in4 0)))) 19 10
+    ∷ ends (asset 1 5 ++ (10 ∷ listedBody 1 2 (N ∷ Z ∷ D ∷ []) (rates 19 (in4 0)))) 20 10
+    ∷ ends (asset 1 5 ++ listed 1) 0 2
+    ∷ []
+
 pub books-end : map (λ r. r .gives) books ≡ map (λ r. r .stated) books
 unfolding books ends roomed endingOf rates any first sum total totalℤ some nearest nearestℤ factorial notAfter upperEnds bucketOf midpoints numberOf _>>=_ _>>_ unless denominator seriesTerm numerator billionOverE shortShare rateChanges shockedRate kinds bodyLength currencyOf isCurve prepaymentMultipliers withdrawalMultipliers behaviouralRate weighedCore depositFlow paid prepaid interest outstandingAt scheduledAt paidAt prepaidAt interestAt loanFlow moved termDepositFlow sided due couponsDue flowOf flow adds magnitude ofCurrency used curved unknownKind cutShort badCurrency badSide badMonths badDays badPeriod badCount badAmount badOption badShare badCategory coreAboveCap coreTooLong interestAlone secondCurve badRate badShock badShocked scheduleOver flowsOver optionsOver overLimit lacksCurve badCapital bookTooLong roomTooSmall signed field each decodeSingle decodeCoupons decodeFloating decodeDeposit decodeLoan decodeTermDeposit decodeOption decodeCurve decodeFloatingSpread decode placed admitted recordAt nextAt walkFrom walk covered outcome
 books-end = refl
+
+pub listed-books-end : map (λ r. r .gives) listedBooks ≡ map (λ r. r .stated) listedBooks
+unfolding listedBooks ends endingOf rates any first sum total totalℤ some nearest nearestℤ factorial notAfter upperEnds bucketOf midpoints numberOf _>>=_ _>>_ unless denominator seriesTerm numerator billionOverE shortShare rateChanges shockedRate kinds bodyLength currencyOf isCurve sided due flowOf flow adds magnitude ofCurrency used curved unknownKind cutShort badCurrency badSide badMonths badDays badAmount secondCurve badRate badShock badShocked flowsOver optionsOver overLimit lacksCurve badCapital bookTooLong roomTooSmall signed field each unknownEdition codeNotListed edition1 edition2 listOf lineOf shocksFor listedAt decodeSingle decodeCurve decodeListedCurve decode placed admitted recordAt nextAt walkFrom walk covered outcome
+listed-books-end = refl

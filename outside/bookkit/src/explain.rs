@@ -15,10 +15,10 @@ const RECORD: &str = "the record's first byte";
 const FIELD: &str = "the first byte of the field";
 const NOUGHT: &str = "always 0";
 
-static EXPLANATIONS: [Explanation; 18] = [
+static EXPLANATIONS: [Explanation; 20] = [
     number(
         1,
-        "unknown kind: where a record should begin, the byte is not a kind from 1 to 9.",
+        "unknown kind: where a record should begin, the byte is not a kind from 1 to 10.",
         RECORD,
         "Look at the byte at the place. At place 0: does the file begin with capital? Then use bookkit show \
          --input. Later on: is the record before it of the length that its kind asks for, or did bytes get \
@@ -87,14 +87,14 @@ static EXPLANATIONS: [Explanation; 18] = [
     ),
     number(
         12,
-        "second curve: the currency has a curve from an earlier record.",
+        "second curve: the currency has a curve from an earlier record, a curve or a listed-curve.",
         RECORD,
         "Look for two curves of one currency, or a curve with another currency's number.",
     ),
     number(
         13,
         "rate, shock or shocked rate out of range: rates and shocked rates are -50,000 to 300,000 millionths, \
-         shocks 0 to 1,000 basis points. No floor is applied.",
+         shocks 0 to 1,000 basis points. No floor is applied. A listed-curve's shocks are those of its edition.",
         "the first byte of the rate or the shock; for a shocked rate, of the base rate in the lowest bucket that has \
          one out of range in some scenario",
         "If the rates and shocks themselves are in range, a shock takes a rate out of it.",
@@ -134,6 +134,20 @@ static EXPLANATIONS: [Explanation; 18] = [
          1,064.",
         NOUGHT,
         "This is about the calling program, not the book; irreport itself never gives it.",
+    ),
+    number(
+        19,
+        "unknown edition: a listed-curve takes its shocks from edition 1, the standard of 2016, or edition 2, the \
+         recalibration of 2024.",
+        RECORD,
+        "Look at the third byte of the record. It is the number 1 or 2, not the letter.",
+    ),
+    number(
+        20,
+        "code not listed: the edition that a listed-curve names has no shocks for its currency code.",
+        RECORD,
+        "Look at the fourth to the sixth byte of the record: three capital letters, as EUR. docs/format.md has the \
+         codes of each edition. The shocks of a currency that has none can be given in a curve.",
     ),
 ];
 

@@ -33,12 +33,15 @@ The text form has one record to a line. # begins a comment. Fields may come in a
   term-deposit currency=1 share=6000 amounts=6:1000
   option-add-on currency=1 side=sold values=1:50,2:-20
   curve currency=1 rates=1-10:20000,11-19:25000 parallel=200 short=300 long=150
-  raw 0a ff
+  listed-curve currency=2 edition=1 code=EUR rates=1-19:20000
+  raw ff 0a
 
 Lists name buckets 1 to 19 (values: scenarios 1 to 6), one by one or first-last; what is not named is nil, and
 nil alone is a list of nothing else. Sides are asset and liability, or sold and bought; a bad side is its number.
 Money is in thousands, rates in millionths, shocks in basis points, shares in hundredths of a per cent (a loan's
-prepaid in a year, a term deposit's withdrawn once).
+prepaid in a year, a term deposit's withdrawn once). A listed-curve has the shocks that its edition lists for its
+currency code, and show says them: edition 1 is the standard of 2016, edition 2 the recalibration of 2024, which was
+entered from recollection. A code of other bytes than letters and digits is in hexadecimal, as code=45:55:20.
 raw holds bytes that make no whole record. make judges no numbers, as long as they fit: show does.
 ";
 
@@ -128,7 +131,7 @@ fn make_into(path: &OsStr, output: &OsStr) -> Result<(), Trouble> {
 
 fn explained(number: &str) -> Result<(), Trouble> {
     let text = number.parse().ok().and_then(explain);
-    let text = text.ok_or_else(|| not_done(format!("{} is no refusal number; they are 1 to 18", quoted(number))))?;
+    let text = text.ok_or_else(|| not_done(format!("{} is no refusal number; they are 1 to 20", quoted(number))))?;
     print(&text)
 }
 

@@ -60,11 +60,7 @@ fn raw(words: Vec<&str>) -> Result<Vec<u8>, String> {
     if words.is_empty() {
         return Err(wrong(""));
     }
-    let byte = |word: &&str| match word.len() == 2 && word.bytes().all(|digit| digit.is_ascii_hexdigit()) {
-        true => u8::from_str_radix(word, 16).map_err(|_| wrong(word)),
-        false => Err(wrong(word)),
-    };
-    words.iter().map(byte).collect()
+    words.iter().map(|word| values::hexadecimal(word).ok_or_else(|| wrong(word))).collect()
 }
 
 fn record(name: &str, words: Vec<&str>) -> Result<Vec<u8>, String> {

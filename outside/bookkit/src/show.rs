@@ -1,9 +1,12 @@
 //! From bytes to the text form. Everything but the records is a comment, which `make` passes over.
 
 use crate::values;
-use reference::{answer_input, split_input, step, Answer, Field, Record, Refusal, Request, Step};
+use reference::{answer_input, shocks, split_input, step, Answer, Field, Record, Refusal, Request, Step};
 
 const RAW_BYTES_IN_A_LINE: usize = 16;
+const LISTED_CURVE: u8 = 10;
+const RECOLLECTED: &str = "; edition 2 was entered from recollection and must be held against the published table \
+                           (BCBS d578, July 2024) before filing";
 
 pub struct Listing {
     pub text: String,
@@ -37,9 +40,9 @@ fn listing(capital: Option<u64>, book: &[u8], answer: Answer) -> Listing {
     let (mut place, mut count) = (0, 0);
     while let Step::Whole(record) = step(book, place) {
         let next = place + record.length();
-        let at_fault = found.filter(|(number, at)| *number <= 14 && (place..next).contains(at));
+        let at_fault = found.filter(|(number, at)| is_of_a_record(*number) && (place..next).contains(at));
         text += &mark(at_fault.is_some());
-        text += &format!("{}  # place {place}\n", record_line(&record));
+        text += &format!("{}  # place {place}{}\n", record_line(&record), remark(&record));
         text.extend(at_fault.and_then(|(_, at)| pointer(&record, place, at)));
         place = next;
         count += 1;
@@ -48,6 +51,11 @@ fn listing(capital: Option<u64>, book: &[u8], answer: Answer) -> Listing {
     text += &raw_lines(&book[place..], place);
     text += &mark(matches!(found, Some((15, _))));
     Listing { text: summary(book.len(), count, found) + &text, refusal }
+}
+
+/// The others have no byte of the book for their place.
+fn is_of_a_record(number: u8) -> bool {
+    matches!(number, 1..=14 | 19..=20)
 }
 
 fn summary(length: usize, records: usize, refused: Option<(u8, usize)>) -> String {
@@ -65,6 +73,18 @@ fn marked(refusal: &Refusal) -> String {
 
 fn record_line(record: &Record) -> String {
     line_before(record, None)
+}
+
+/// What a listed curve does not say itself: the shocks that are used, and what to think of the second list.
+fn remark(record: &Record) -> String {
+    if record.kind.number != LISTED_CURVE {
+        return String::new();
+    }
+    let used = shocks(record).map(|[parallel, short, long]| {
+        format!("; its shocks, as listed: parallel {parallel}, short {short}, long {long}")
+    });
+    let doubt = (record.one("edition") == 2).then_some(RECOLLECTED);
+    used.unwrap_or_default() + doubt.unwrap_or_default()
 }
 
 /// The line of a record, up to a field if one is named.

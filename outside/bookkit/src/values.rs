@@ -1,7 +1,7 @@
 //! How the numbers of a field stand in the text form, and how they are read back.
 
 use crate::plain::quoted;
-use reference::{Field, Item, Kind};
+use reference::{Code, Field, Item, Kind};
 
 const NIL: &str = "nil";
 
@@ -17,8 +17,18 @@ fn side_words(kind: &Kind) -> [&'static str; 2] {
 pub fn written(kind: &Kind, field: &Field, values: &[i64]) -> String {
     match (field.item, values) {
         (Item::Side, [side @ 1..=2]) => side_words(kind)[*side as usize - 1].to_string(),
+        (Item::Code, [number]) => written_code(Code::of_number(*number)),
         (_, [value]) => value.to_string(),
         _ => written_list(values),
+    }
+}
+
+/// Letters and digits as they are; where any other byte is among the three, all of them in hexadecimal, as 45:55:20.
+fn written_code(Code(bytes): Code) -> String {
+    if bytes.iter().all(u8::is_ascii_alphanumeric) {
+        bytes.iter().map(|byte| char::from(*byte)).collect()
+    } else {
+        bytes.map(|byte| format!("{byte:02x}")).join(":")
     }
 }
 
@@ -47,10 +57,29 @@ pub fn read(kind: &Kind, field: &Field, text: &str) -> Result<Vec<i64>, String> 
     if field.times > 1 {
         return read_list(field, text);
     }
-    if field.item == Item::Side {
-        return read_side(kind, field, text);
+    match field.item {
+        Item::Side => read_side(kind, field, text),
+        Item::Code => Ok(vec![read_code(field, text)?.number()]),
+        _ => Ok(vec![read_number(field, text)?]),
     }
-    Ok(vec![read_number(field, text)?])
+}
+
+fn read_code(field: &Field, text: &str) -> Result<Code, String> {
+    let in_hexadecimal = || {
+        let bytes: Option<Vec<u8>> = text.split(':').map(hexadecimal).collect();
+        bytes?.try_into().ok()
+    };
+    let as_it_is = || text.bytes().all(|byte| byte.is_ascii_alphanumeric()).then(|| text.as_bytes().try_into().ok())?;
+    as_it_is().or_else(in_hexadecimal).map(Code).ok_or_else(|| {
+        let (name, text) = (field.name, quoted(text));
+        format!("{name} takes three letters like EUR, or three bytes in hexadecimal like 45:55:52, not {text}")
+    })
+}
+
+/// A byte of two hexadecimal digits.
+pub fn hexadecimal(text: &str) -> Option<u8> {
+    let digits = text.len() == 2 && text.bytes().all(|digit| digit.is_ascii_hexdigit());
+    digits.then(|| u8::from_str_radix(text, 16).ok())?
 }
 
 fn read_side(kind: &Kind, field: &Field, text: &str) -> Result<Vec<i64>, String> {

@@ -17,7 +17,7 @@ fn text_of(name: &str) -> String {
 
 #[test]
 fn text_input_and_report_agree() {
-    for name in ["worked", "small-bank", "damaged", "mistyped"] {
+    for name in ["worked", "small-bank", "listed-curves", "damaged", "mistyped"] {
         let input = example(&format!("{name}.input"));
         assert_eq!(make(&example(&format!("{name}.txt"))), Ok(input.clone()), "{name}");
         assert_eq!(irreport(&input), text_of(&format!("{name}.report")), "{name}");
@@ -35,14 +35,34 @@ fn the_worked_example_is_that_of_the_paper() {
 }
 
 #[test]
-fn the_small_bank_has_all_kinds_in_two_currencies() {
-    let input = example("small-bank.input");
-    let (_, book) = split_input(&input).expect("an input");
-    let (records, rest) = split(book);
-    let kinds: BTreeSet<u8> = records.iter().map(|record| record[0]).collect();
-    let currencies: BTreeSet<u8> = records.iter().map(|record| record[1]).collect();
-    assert_eq!((kinds.len(), currencies.len(), rest.len()), (9, 2, 0));
-    assert_eq!(show_input(&input).refusal.map(|refusal| refusal.number), None);
+fn the_small_bank_has_kinds_1_to_9_in_two_currencies_and_its_twin_listed_curves() {
+    for (name, due) in [("small-bank", [1, 2, 3, 4, 5, 6, 7, 8, 9]), ("listed-curves", [1, 2, 3, 4, 5, 6, 7, 9, 10])] {
+        let input = example(&format!("{name}.input"));
+        let (_, book) = split_input(&input).expect("an input");
+        let (records, rest) = split(book);
+        let kinds: BTreeSet<u8> = records.iter().map(|record| record[0]).collect();
+        let currencies: BTreeSet<u8> = records.iter().map(|record| record[1]).collect();
+        assert_eq!((currencies.len(), rest.len()), (2, 0));
+        assert!(kinds.into_iter().eq(due), "{name}");
+        assert_eq!(show_input(&input).refusal.map(|refusal| refusal.number), None);
+    }
+}
+
+/// As its text says: currency 1 has the changes of the small bank; so has currency 2 by edition 1, and by edition 2 those of
+/// the small bank with 175, 250 and 225 typed.
+#[test]
+fn the_listed_curves_are_those_of_the_small_bank_with_the_shocks_typed() {
+    let of = |name: &str, right: &str, other: &str| {
+        let text = text_of(name);
+        assert_eq!(text.matches(right).count(), 1, "{right}");
+        irreport(&make(text.replace(right, other).as_bytes()).expect("a good text"))
+    };
+    let (small, listed) = (text_of("small-bank.report"), text_of("listed-curves.report"));
+    assert_eq!(small.lines().next(), listed.lines().next());
+    assert_ne!(small, listed);
+    assert_eq!(of("listed-curves.txt", "edition=2 code=SGD", "edition=1 code=SGD"), small);
+    let typed = ("parallel=150 short=200 long=100", "parallel=175 short=250 long=225");
+    assert_eq!(of("small-bank.txt", typed.0, typed.1), listed);
 }
 
 #[test]

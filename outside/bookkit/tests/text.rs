@@ -45,6 +45,57 @@ fn sides_have_words_where_they_are_good() {
     assert!(text(1).contains(" side=sold ") && text(2).contains(" side=bought ") && text(0).contains(" side=0 "));
 }
 
+fn listed_curve(edition: u8, code: [u8; 3]) -> Vec<u8> {
+    [&[10, 1, edition][..], &code, &[0; 76]].concat()
+}
+
+#[test]
+fn a_code_stands_as_it_is_or_in_hexadecimal() {
+    let ways = [
+        (*b"EUR", "EUR"),
+        (*b"eUr", "eUr"),
+        (*b"EU0", "EU0"),
+        (*b"EU ", "45:55:20"),
+        (*b"\0\0\0", "00:00:00"),
+        (*b"E=#", "45:3d:23"),
+        ([255, b'\n', 128], "ff:0a:80"),
+        ([0xc3, 0xa4, b'A'], "c3:a4:41"),
+    ];
+    for (code, written) in ways {
+        let line = format!("listed-curve currency=1 edition=1 code={written} rates=nil");
+        assert_eq!(make(line.as_bytes()), Ok(listed_curve(1, code)), "{written}");
+        assert!(show_book(&listed_curve(1, code)).text.contains(&format!("\n{line}  # place 0")), "{written}");
+    }
+    let line = b"listed-curve currency=1 edition=1 code=45:55:5A rates=nil";
+    assert_eq!(make(line), Ok(listed_curve(1, *b"EUZ")), "letters may stand in hexadecimal, whose digits may be large");
+}
+
+/// The shocks beside every listed curve that has some, and beside each of edition 2 that nobody has checked it.
+#[test]
+fn a_listed_curve_is_shown_with_its_shocks_and_edition_2_with_its_doubt() {
+    let line = |edition, code| {
+        let text = show_book(&listed_curve(edition, code)).text;
+        text.lines().find(|line| line.starts_with("listed-curve ")).expect("a line").to_string()
+    };
+    let doubt = "; edition 2 was entered from recollection and must be held against the published table (BCBS d578, \
+                 July 2024) before filing";
+    let eur = line(1, *b"EUR");
+    assert!(eur.ends_with("  # place 0; its shocks, as listed: parallel 200, short 250, long 100"), "{eur}");
+    let eur = line(2, *b"EUR");
+    assert!(eur.ends_with(&format!("as listed: parallel 225, short 350, long 200{doubt}")), "{eur}");
+    assert!(line(2, *b"eur").ends_with(&format!("  # place 0{doubt}")));
+    assert!(line(1, *b"eur").ends_with("  # place 0") && line(3, *b"EUR").ends_with("  # place 0"));
+    assert!(!show_book(&[&[8, 1][..], &[0; 82]].concat()).text.contains("listed"));
+}
+
+/// The bytes of a code may be anything, and one line stays one.
+#[test]
+fn number_20_shows_the_code_escaped() {
+    let because = |code| show_book(&listed_curve(2, code)).refusal.expect("a refusal").because;
+    assert_eq!(because(*b"eur"), "code \"eur\" is not listed in edition 2");
+    assert_eq!(because([0x1b, b'\n', 255]), "code \"\\x1b\\n\\xff\" is not listed in edition 2");
+}
+
 #[test]
 fn a_bad_line_is_named_with_its_reason() {
     let flow = "single-flow currency=1 side=asset months=1 amount=4";
@@ -66,6 +117,16 @@ fn a_bad_line_is_named_with_its_reason() {
         ("term-deposit currency=1 share=2 amounts=3-2:5", "has buckets 1 to 19, not \"3-2\""),
         ("term-deposit currency=1 share=2 amounts=5", "not \"5\""),
         ("option-add-on currency=1 side=sold values=7:1", "has scenarios 1 to 6, not \"7\""),
+        ("listed-curve currency=1 edition=256 code=EUR rates=nil", "edition cannot hold 256: only 0 to 255 fit"),
+        ("listed-curve currency=1 edition=1 code=EURO rates=nil", "code takes three letters like EUR, or "),
+        ("listed-curve currency=1 edition=1 code=EU rates=nil", "not \"EU\""),
+        ("listed-curve currency=1 edition=1 code=45:55 rates=nil", "not \"45:55\""),
+        ("listed-curve currency=1 edition=1 code=45:55:5 rates=nil", "not \"45:55:5\""),
+        ("listed-curve currency=1 edition=1 code=45:55:+5 rates=nil", "not \"45:55:+5\""),
+        ("listed-curve currency=1 edition=1 code=45:55:52:00 rates=nil", "not \"45:55:52:00\""),
+        ("listed-curve currency=1 edition=1 code=ä1 rates=nil", "not \"ä1\""),
+        ("listed-curve currency=1 edition=1 code=E-R rates=nil", "not \"E-R\""),
+        ("listed-curve currency=1 code=EUR rates=nil", "listed-curve lacks edition"),
         ("capital", "capital takes one number"),
         ("raw 0", "not \"0\""),
         ("raw +1", "not \"+1\""),
@@ -82,7 +143,7 @@ fn a_bad_line_is_named_with_its_reason() {
 
 #[test]
 fn each_number_is_explained_and_no_other() {
-    for number in 1..=18 {
+    for number in 1..=20 {
         let text = explain(number).expect("an explanation");
         let lines: Vec<&str> = text.lines().collect();
         assert!(lines.len() == 3 && lines[0].starts_with(&format!("{number}: ")), "{text}");
@@ -99,5 +160,5 @@ fn each_number_is_explained_and_no_other() {
         };
         assert!(lines[1].starts_with(place), "{text}");
     }
-    assert_eq!((explain(0), explain(19)), (None, None));
+    assert_eq!((explain(0), explain(21)), (None, None));
 }

@@ -1,18 +1,19 @@
 //! Cases aimed at one refusal number: just out, turned down with it, or just in, not turned down with it.
 
+use crate::aimed_curves as curves;
 use crate::aimed_limits as limits;
 use crate::case::{joined, Case, Expected};
 use crate::draw::Draw;
-use crate::position::{bearable_rates, curve, position, record, POSITIONS};
+use crate::position::{bearable_rates, position, some_curve, POSITIONS};
 use crate::valid;
 use reference::{
-    periods_start, Item, Kind, Record, BUCKETS, GREATEST_CAPITAL, KINDS, LAST_MONTH, LEDGER_CELLS, LONGEST_BOOK,
-    REPORT_CELLS,
+    is_curve, periods_start, shocks, Item, Kind, Record, GREATEST_CAPITAL, KINDS, LAST_MONTH, LEDGER_CELLS,
+    LONGEST_BOOK, REPORT_CELLS,
 };
 
 pub fn case(draw: &mut Draw, number: u8, out: bool) -> Case {
     match number {
-        1..=14 => aimed_record(draw, number, out),
+        1..=14 | 19 | 20 => aimed_record(draw, number, out),
         15 => missing_curve(draw, out),
         _ => outside_the_records(draw, number, out),
     }
@@ -41,8 +42,8 @@ fn front(draw: &mut Draw, number: u8, currency: i64) -> Vec<u8> {
     let others: Vec<i64> = (1..=8).filter(|other| *other != currency).collect();
     let length = draw.between(0, 400) as usize;
     let mut records = valid::records(draw, &others, length);
-    if !(12..=13).contains(&number) {
-        records.push(curve(draw, currency));
+    if ![12, 13, 19, 20].contains(&number) {
+        records.push(some_curve(draw, currency));
         draw.shuffle(&mut records);
     }
     joined(&records)
@@ -53,16 +54,19 @@ fn front(draw: &mut Draw, number: u8, currency: i64) -> Vec<u8> {
 fn aimed_records(draw: &mut Draw, number: u8, currency: i64, out: bool) -> (Vec<Vec<u8>>, usize) {
     let whole = |record: Record| (vec![record], 0);
     let (records, within) = match number {
-        1 if out => return (vec![vec![draw.pick(&[0, 10, 11, 128, 255])]], 0),
+        1 if out => return (vec![vec![draw.pick(&[0, 11, 12, 128, 255])]], 0),
         2 if out => return (vec![cut_short(draw, currency)], 0),
         1 | 2 => whole(some_position(draw, currency)),
         9 => whole(limits::core_at_its_cap(draw, currency, out)),
         10 => whole(limits::core_average_at_its_cap(draw, currency, out)),
-        12 if out => (vec![curve(draw, currency), second_curve(draw, currency)], 0),
-        12 => whole(curve(draw, currency)),
+        12 if out => (vec![some_curve(draw, currency), curves::second(draw, currency)], 0),
+        12 => whole(some_curve(draw, currency)),
         14 => (limits::gross_at_its_limit(draw, currency, out), 0),
         11 => told_at_a_field(limits::interest_at_the_last_principal(draw, currency, out)),
-        13 if draw.coin() => told_at_a_field(shocked_rate(draw, currency, out)),
+        13 if draw.coin() => told_at_a_field(curves::shocked_rate(draw, currency, out)),
+        13 if out && draw.once_in(3) => told_at_a_field(curves::rate_as_read(draw, currency)),
+        19 => whole(curves::edition(draw, currency, out)),
+        20 => whole(curves::code(draw, currency, out)),
         _ => told_at_a_field(field_at_its_edge(draw, number, currency, out)),
     };
     (records.iter().map(Record::bytes).collect(), within)
@@ -76,15 +80,6 @@ fn told_at_a_field((record, field, index): FieldAtFault) -> (Vec<Record>, usize)
     (vec![record], within)
 }
 
-/// At times with a rate out of range as well: 12 comes first.
-fn second_curve(draw: &mut Draw, currency: i64) -> Record {
-    let second = curve(draw, currency);
-    if draw.coin() {
-        return second;
-    }
-    second.with("rates", draw.index(BUCKETS), 300_001)
-}
-
 fn some_position(draw: &mut Draw, currency: i64) -> Record {
     let kind = draw.pick(&POSITIONS);
     position(draw, kind, currency, 1_000_000)
@@ -93,7 +88,8 @@ fn some_position(draw: &mut Draw, currency: i64) -> Record {
 /// At times with a bad currency as well: 2 comes first.
 fn cut_short(draw: &mut Draw, currency: i64) -> Vec<u8> {
     let currency = draw.pick(&[currency, 0, 9]);
-    let mut bytes = if draw.once_in(4) { curve(draw, currency).bytes() } else { some_position(draw, currency).bytes() };
+    let mut bytes =
+        if draw.once_in(4) { some_curve(draw, currency).bytes() } else { some_position(draw, currency).bytes() };
     let length = draw.between(1, bytes.len() as i64 - 1);
     bytes.truncate(draw.pick(&[1, length as usize, bytes.len() - 1]));
     bytes
@@ -104,17 +100,20 @@ fn field_at_its_edge(draw: &mut Draw, number: u8, currency: i64, out: bool) -> F
     let judged = |kind: &'static Kind| kind.fields.iter().map(move |field| (kind, field));
     let fields: Vec<_> = KINDS.iter().flat_map(judged).filter(|(_, field)| field.item.allowed().0 == number).collect();
     let (kind, field) = draw.pick(&fields);
-    let plain = match kind.number {
-        8 => record(8, &[vec![currency], vec![100_000; BUCKETS], vec![0; 3]].concat()),
-        other => position(draw, other, currency, 0),
-    };
+    let plain =
+        if is_curve(kind) { curves::flat(draw, kind, currency) } else { position(draw, kind.number, currency, 0) };
+    let index = draw.index(field.times);
     let value = match field.item {
         Item::Period if out => draw.pick(&[0, 2, 4, 5, 7, 11, 13, 255]),
         Item::Period => plain.one("period"),
         Item::Currency if !out => currency,
+        // Just in, a rate has to bear the shocks as well, and a listed curve has no choice of them.
+        Item::Rate if !out => {
+            let (low, high) = bearable_rates(shocks(&plain).expect("a good curve"), index);
+            draw.pick(&[low, high])
+        }
         item => edge(draw, item, *item.allowed().1.start(), greatest(&plain, item), out),
     };
-    let index = draw.index(field.times);
     // Good months that are too late for the periods after them are the count's fault.
     let at_fault = if out && field.item == Item::Months && value <= LAST_MONTH { "count" } else { field.name };
     (plain.with(field.name, index, value), at_fault, index)
@@ -141,22 +140,6 @@ fn edge(draw: &mut Draw, item: Item, first: i64, last: i64, out: bool) -> i64 {
     draw.pick(&beyond)
 }
 
-/// Rates that their shocks bring to the ends of the range; just out, one of them goes a step further, and at times a
-/// later one as well: the lowest bucket is told.
-fn shocked_rate(draw: &mut Draw, currency: i64, out: bool) -> FieldAtFault {
-    let mut shocks = [0; 3].map(|_| draw.amount(1_000));
-    shocks[draw.index(3)] = draw.between(1, 1_000);
-    let ends = |bucket| bearable_rates(shocks, bucket);
-    let mut rates: Vec<i64> = (0..BUCKETS).map(|bucket| draw.pick(&[ends(bucket).0, ends(bucket).1])).collect();
-    let lowest = draw.index(BUCKETS);
-    for bucket in [lowest, lowest + draw.index(BUCKETS - lowest)] {
-        if out {
-            rates[bucket] = draw.pick(&[ends(bucket).0 - 1, ends(bucket).1 + 1]);
-        }
-    }
-    (record(8, &[vec![currency], rates, shocks.to_vec()].concat()), "rates", lowest)
-}
-
 /// Positions, of nil at times, in up to three currencies that have no curve; just in, the curves follow.
 fn missing_curve(draw: &mut Draw, out: bool) -> Case {
     let mut currencies: Vec<i64> = (1..=8).collect();
@@ -169,7 +152,7 @@ fn missing_curve(draw: &mut Draw, out: bool) -> Case {
         let most = draw.pick(&[0, 1_000_000]);
         records.push(position(draw, kind, *currency, most));
         if !out {
-            records.push(curve(draw, *currency));
+            records.push(some_curve(draw, *currency));
         }
     }
     draw.shuffle(&mut records);

@@ -3,7 +3,7 @@
 
 use crate::case::{joined, Case, Expected};
 use crate::draw::Draw;
-use crate::position::{curve, position, record};
+use crate::position::{position, record, some_curve};
 use reference::{exponent, meets_a_half, Record, BUCKETS, GREATEST_GROSS, RATES, UPPER_ENDS};
 use std::sync::OnceLock;
 
@@ -21,7 +21,7 @@ pub fn case(draw: &mut Draw) -> Case {
 /// Half a billion times an odd difference of factors ends in half a billion.
 fn half_of_a_change(draw: &mut Draw, currency: i64) -> Vec<Record> {
     let bucket = draw.index(BUCKETS);
-    vec![curve(draw, currency), flow(draw, currency, bucket, GREATEST_GROSS / 2)]
+    vec![some_curve(draw, currency), flow(draw, currency, bucket, GREATEST_GROSS / 2)]
 }
 
 /// A billion of flow makes a billionth of the factor one whole unit of the change. The base rate meets the half, or

@@ -2,6 +2,7 @@
 //! damaged ones; and a shrinker that finds a small book showing the same difference.
 
 mod aimed;
+mod aimed_curves;
 mod aimed_limits;
 mod case;
 mod damage;

@@ -1,7 +1,9 @@
 //! Good records: curves, and positions whose gross flows stay below a limit.
 
 use crate::draw::Draw;
-use reference::{rate_changes, Kind, Record, BUCKETS, CORE_CAPS, LAST_MONTH, MIDPOINTS, RATES, SCENARIOS, UPPER_ENDS};
+use reference::{
+    listed, rate_changes, Kind, Listed, Record, BUCKETS, CORE_CAPS, LAST_MONTH, MIDPOINTS, RATES, SCENARIOS, UPPER_ENDS,
+};
 
 const LAST_DAY: i64 = 30;
 const WHOLE_SHARE: i64 = 10_000;
@@ -124,9 +126,32 @@ fn option_add_on(draw: &mut Draw, most: i64) -> Vec<i64> {
     values
 }
 
-/// A good curve: shocks first, then rates that bear them, up to the last millionth.
+/// A good curve of either kind.
+pub fn some_curve(draw: &mut Draw, currency: i64) -> Record {
+    if draw.coin() {
+        curve(draw, currency)
+    } else {
+        listed_curve(draw, currency)
+    }
+}
+
+/// A good curve of kind 8. The books of a month-end run have no other, and stay as they are.
 pub fn curve(draw: &mut Draw, currency: i64) -> Record {
     let shocks: [i64; 3] = std::array::from_fn(|_| draw.amount(1_000));
+    let rates = rates_that_bear(draw, shocks);
+    record(8, &[vec![currency], rates, shocks.to_vec()].concat())
+}
+
+/// A good curve of kind 10, by any edition and any code.
+pub fn listed_curve(draw: &mut Draw, currency: i64) -> Record {
+    let edition = draw.between(1, 2);
+    let Listed { code, shocks } = draw.pick(listed(edition));
+    let rates = rates_that_bear(draw, shocks);
+    record(10, &[vec![currency, edition, code.number()], rates].concat())
+}
+
+/// Rates that bear their shocks, up to the last millionth.
+fn rates_that_bear(draw: &mut Draw, shocks: [i64; 3]) -> Vec<i64> {
     let flat = draw.between(-20_000, 120_000);
     let wild = draw.once_in(3);
     let rates = (0..BUCKETS).map(|bucket| {
@@ -139,7 +164,7 @@ pub fn curve(draw: &mut Draw, currency: i64) -> Record {
             rate
         }
     });
-    record(8, &[vec![currency], rates.collect(), shocks.to_vec()].concat())
+    rates.collect()
 }
 
 /// The lowest and the highest rate of a bucket (from 0) whose shocked rates are all in range.

@@ -13,11 +13,11 @@ pub fn case(seed: u64) -> Case {
     let mut draw = Draw::seeded(seed);
     match draw.between(1, 100) {
         1..=35 => good(&mut draw),
-        36..=70 => {
-            let (number, out) = (draw.between(1, 18) as u8, draw.coin());
+        36..=74 => {
+            let (number, out) = (draw.between(1, 20) as u8, draw.coin());
             aimed::case(&mut draw, number, out)
         }
-        71 | 72 => halves::case(&mut draw),
+        75 | 76 => halves::case(&mut draw),
         _ => {
             let length = draw.pick(&[200, 400, 1_000, 4_000]);
             let book = some_book(&mut draw, length);

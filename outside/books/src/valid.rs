@@ -1,35 +1,45 @@
 //! Whole books that are accepted, of every size.
 
 use crate::draw::Draw;
-use crate::position::{curve, position, POSITIONS};
+use crate::position::{position, some_curve, POSITIONS};
 use reference::{Kind, Record, GREATEST_GROSS, LONGEST_BOOK};
 use std::collections::BTreeMap;
 
-const CURVE_LENGTH: usize = 84;
+/// Of kind 8; kind 10 is shorter.
+const LONGEST_CURVE: usize = 84;
 
 /// The records of a good book of at most `length` bytes in some of the currencies, shuffled.
 pub fn records(draw: &mut Draw, currencies: &[i64], length: usize) -> Vec<Record> {
     let mut currencies = currencies.to_vec();
     draw.shuffle(&mut currencies);
-    currencies.truncate(draw.between(0, currencies.len() as i64).min((length / CURVE_LENGTH) as i64) as usize);
+    currencies.truncate(draw.between(0, currencies.len() as i64).min((length / LONGEST_CURVE) as i64) as usize);
     if currencies.is_empty() {
         return Vec::new();
     }
-    let kinds = kinds_up_to(draw, length - CURVE_LENGTH * currencies.len());
-    assemble(draw, &currencies, &kinds)
+    let (curves, curves_length) = curves(draw, &currencies);
+    let kinds = kinds_up_to(draw, length - curves_length);
+    assemble(draw, &currencies, curves, &kinds)
 }
 
 /// The records of a good book that is as long as a book can be.
 pub fn longest_records(draw: &mut Draw) -> Vec<Record> {
     let currencies: Vec<i64> = (1..=draw.between(1, 8)).collect();
-    let kinds = kinds_filling(draw, LONGEST_BOOK - CURVE_LENGTH * currencies.len());
-    assemble(draw, &currencies, &kinds)
+    let (curves, curves_length) = curves(draw, &currencies);
+    let kinds = kinds_filling(draw, LONGEST_BOOK - curves_length);
+    assemble(draw, &currencies, curves, &kinds)
 }
 
-/// One curve for each currency and one position for each kind; the limits are shared out among the positions.
-fn assemble(draw: &mut Draw, currencies: &[i64], kinds: &[u8]) -> Vec<Record> {
+/// A curve of either kind for each currency, and the bytes that they take.
+fn curves(draw: &mut Draw, currencies: &[i64]) -> (Vec<Record>, usize) {
+    let curves: Vec<Record> = currencies.iter().map(|currency| some_curve(draw, *currency)).collect();
+    let length = curves.iter().map(Record::length).sum();
+    (curves, length)
+}
+
+/// The curves of the currencies and one position for each kind; the limits are shared out among the positions.
+fn assemble(draw: &mut Draw, currencies: &[i64], curves: Vec<Record>, kinds: &[u8]) -> Vec<Record> {
     let placed: Vec<(u8, i64)> = kinds.iter().map(|kind| (*kind, draw.pick(currencies))).collect();
-    let mut records: Vec<Record> = currencies.iter().map(|currency| curve(draw, *currency)).collect();
+    let mut records = curves;
     let sharers = |currency: i64| placed.iter().filter(|(_, other)| *other == currency).count() as i64;
     let shares: BTreeMap<i64, i64> = currencies.iter().map(|currency| (*currency, sharers(*currency))).collect();
     for (kind, currency) in &placed {

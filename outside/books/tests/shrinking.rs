@@ -24,7 +24,12 @@ fn a_refusal_is_shrunk_to_its_reason() {
     let position = [1, 4, 1, 0, 9, 0, 0, 0, 0, 9];
     let book = [&some_long_book()[..], &position].concat();
     let (records, _) = split(&book);
-    let without: Vec<u8> = records.into_iter().filter(|record| record[..2] != [8, 4]).flatten().copied().collect();
+    let without: Vec<u8> = records
+        .into_iter()
+        .filter(|record| ![[8, 4], [10, 4]].contains(&[record[0], record[1]]))
+        .flatten()
+        .copied()
+        .collect();
     assert!(is_15(&without));
     let small = shrink(&without, is_15);
     assert!(is_15(&small) && split(&small).0.len() == 1, "{small:?}");

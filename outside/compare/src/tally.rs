@@ -3,8 +3,8 @@
 use reference::{Answer, LONGEST_BOOK};
 use std::ops::AddAssign;
 
-/// The numbers of 01's table of refusals.
-const NUMBERS: usize = 18;
+/// The numbers of 01's table of refusals and those of 02.
+const NUMBERS: usize = 20;
 /// A book counts as long above this.
 const LONG: usize = 60_000;
 
@@ -18,10 +18,10 @@ pub struct Tally {
     pub differences: u64,
 }
 
-/// What a run has to reach to count, from `shortest` cases on: each refusal number up to `last_number`, and a good
-/// long book, at least once in so many cases.
+/// What a run has to reach to count, from `shortest` cases on: each refusal number but the one that cannot come, and a
+/// good long book, at least once in so many cases.
 pub struct Floors {
-    pub last_number: usize,
+    pub never: Option<usize>,
     pub shortest: u64,
     pub once_in: u64,
     /// One report at least is held against exact numbers.
@@ -29,9 +29,9 @@ pub struct Floors {
 }
 
 /// In 20,000 cases each number comes 100 times, or the run fails.
-pub const FACE: Floors = Floors { last_number: 18, shortest: 10_000, once_in: 200, judged: true };
+pub const FACE: Floors = Floors { never: None, shortest: 10_000, once_in: 200, judged: true };
 /// The report program has no rooms to be too short: it never gives 18.
-pub const PROGRAM: Floors = Floors { last_number: 17, shortest: 500, once_in: 500, judged: false };
+pub const PROGRAM: Floors = Floors { never: Some(18), shortest: 500, once_in: 500, judged: false };
 
 impl Tally {
     pub fn count(&mut self, book: &[u8], due: &Answer) {
@@ -66,8 +66,8 @@ impl Tally {
             return None;
         }
         let floor = self.cases / floors.once_in;
-        let rare = (1..=floors.last_number).zip(self.refused).find(|(_, times)| *times < floor);
-        match rare {
+        let mut due = (1..).zip(self.refused).filter(|(number, _)| Some(*number) != floors.never);
+        match due.find(|(_, times)| *times < floor) {
             Some((number, times)) => Some(format!("refusal {number} was reached {times} times, fewer than {floor}")),
             None if self.long < floor => {
                 Some(format!("{} good books had more than {LONG} bytes, fewer than {floor}", self.long))
@@ -91,10 +91,10 @@ impl AddAssign<&Tally> for Tally {
 
 #[cfg(test)]
 mod tests {
-    use super::{Tally, FACE};
+    use super::{Tally, FACE, NUMBERS, PROGRAM};
 
     fn enough() -> Tally {
-        Tally { cases: 20_000, reported: 18_200, long: 100, judged: 1, refused: [100; 18], differences: 0 }
+        Tally { cases: 20_000, reported: 18_200, long: 100, judged: 1, refused: [100; NUMBERS], differences: 0 }
     }
 
     #[test]
@@ -104,12 +104,22 @@ mod tests {
 
     #[test]
     fn a_number_that_is_rare_fails_the_run() {
-        for index in 0..18 {
+        for index in 0..NUMBERS {
             let mut tally = enough();
             tally.refused[index] = 99;
             let complaint = tally.complaint(&FACE).unwrap_or_default();
             assert!(complaint.starts_with(&format!("refusal {} was reached 99 times", index + 1)), "{complaint}");
         }
+    }
+
+    #[test]
+    fn the_report_program_owes_every_number_but_18() {
+        let lacking = |number: usize| {
+            let mut tally = enough();
+            tally.refused[number - 1] = 0;
+            tally.complaint(&PROGRAM)
+        };
+        assert!((1..=20).all(|number| lacking(number).is_none() == (number == 18)));
     }
 
     #[test]
@@ -124,6 +134,6 @@ mod tests {
     fn batches_add_up() {
         let mut all = enough();
         all += &enough();
-        assert_eq!((all.cases, all.refused, all.long), (40_000, [200; 18], 200));
+        assert_eq!((all.cases, all.refused, all.long), (40_000, [200; NUMBERS], 200));
     }
 }

@@ -1,7 +1,7 @@
 //! The walk over the book, and the kinds (01, "Records").
 
 use crate::coupons::{add_coupons, add_floating_spread};
-use crate::curve::add_curve;
+use crate::curve::{add_curve, add_listed_curve};
 use crate::fields::{amount, amounts, days, months, option_value, side, Refusal};
 use crate::holdings::{Holdings, CURRENCIES, SHOCKED};
 use crate::ladder::{bucket, MIDPOINTS};
@@ -33,6 +33,7 @@ fn body_length(kind: u8) -> Option<usize> {
         7 => Some(26),
         8 => Some(83),
         9 => Some(20),
+        10 => Some(81),
         _ => None,
     }
 }
@@ -51,7 +52,8 @@ fn take(kind: u8, body: &[u8], holdings: &mut Holdings) -> Result<(), Refusal> {
         6 => add_term_deposit(currency, body, holdings)?,
         7 => add_option(currency, body, holdings)?,
         8 => return add_curve(currency, body, holdings),
-        _ => add_floating_spread(currency, body, holdings)?,
+        9 => add_floating_spread(currency, body, holdings)?,
+        _ => return add_listed_curve(currency, body, holdings),
     }
     holdings.used |= 1 << currency;
     Ok(())

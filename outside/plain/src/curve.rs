@@ -1,8 +1,9 @@
-//! Kind 8 and the shocks (01, "Curves and shocks").
+//! Kinds 8 and 10 and the shocks (01, "Curves and shocks"; 02, request 5).
 
 use crate::fields::{rate, rate_in_range, shock, Refusal};
 use crate::holdings::{Holdings, SCENARIOS};
 use crate::ladder::BUCKETS;
+use crate::listed::listed_shocks;
 use crate::report::rounded;
 use crate::table::SHORT_SHARES;
 
@@ -10,20 +11,50 @@ const BILLION: i64 = 1_000_000_000;
 
 /// 12 comes after the currency, shocked rates last.
 pub fn add_curve(currency: usize, body: &[u8], holdings: &mut Holdings) -> Result<(), Refusal> {
+    refuse_second(currency, holdings)?;
+    let base = rates(body, 1)?;
+    let shocks = [shock(body, 77)?, shock(body, 79)?, shock(body, 81)?];
+    add_shocked(currency, &base, 1, shocks, holdings)
+}
+
+/// 12, then 19 and 20, then the rates.
+pub fn add_listed_curve(currency: usize, body: &[u8], holdings: &mut Holdings) -> Result<(), Refusal> {
+    refuse_second(currency, holdings)?;
+    let shocks = listed_shocks(body, 1)?;
+    let base = rates(body, 5)?;
+    add_shocked(currency, &base, 5, shocks, holdings)
+}
+
+fn refuse_second(currency: usize, holdings: &Holdings) -> Result<(), Refusal> {
     if holdings.has_curve(currency) {
         return Err(Refusal::of_record(12));
     }
-    let mut base = [0; BUCKETS];
-    for (bucket, place) in base.iter_mut().enumerate() {
-        *place = rate(body, 1 + 4 * bucket)?;
+    Ok(())
+}
+
+/// Nineteen rates in a row, by bucket.
+fn rates(body: &[u8], from: usize) -> Result<[i64; BUCKETS], Refusal> {
+    let mut rates = [0; BUCKETS];
+    for (bucket, place) in rates.iter_mut().enumerate() {
+        *place = rate(body, from + 4 * bucket)?;
     }
-    let (parallel, short, long) = (shock(body, 77)?, shock(body, 79)?, shock(body, 81)?);
+    Ok(rates)
+}
+
+/// The base rates stand in the body from this byte on: a shocked rate out of range is told there.
+fn add_shocked(
+    currency: usize,
+    base: &[i64; BUCKETS],
+    from: usize,
+    [parallel, short, long]: [i64; 3],
+    holdings: &mut Holdings,
+) -> Result<(), Refusal> {
     for bucket in 0..BUCKETS {
         let changes = changes(parallel, short, long, SHORT_SHARES[bucket]);
         for (scenario, change) in changes.iter().enumerate() {
             let shocked = base[bucket] + change;
             if !rate_in_range(shocked) {
-                return Err(Refusal::of_field(13, 1 + 4 * bucket));
+                return Err(Refusal::of_field(13, from + 4 * bucket));
             }
             holdings.rates[currency][scenario][bucket] = shocked;
         }

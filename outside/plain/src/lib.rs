@@ -8,6 +8,7 @@ mod curve;
 mod fields;
 mod holdings;
 mod ladder;
+mod listed;
 mod loans;
 mod report;
 mod table;

@@ -1,13 +1,30 @@
-//! Curves, shocks and shocked rates (01, "Curves and shocks").
+//! Curves, shocks and shocked rates (01, "Curves and shocks"; 02, request 5).
 
 use crate::fields::RATES;
 use crate::ladder::BUCKETS;
-use crate::layout::{Record, SCENARIOS};
+use crate::layout::{Kind, Record, SCENARIOS};
 use crate::refusal::{demand, Fault};
 use crate::rounding::halves_away;
 use crate::series::tables;
+use crate::shock_lists::{listed_shocks, Code};
 
 const BILLION: i128 = 1_000_000_000;
+const CURVE: u8 = 8;
+const LISTED_CURVE: u8 = 10;
+
+/// The kinds that count as a currency's curve wherever 01 says curve.
+pub fn is_curve(kind: &Kind) -> bool {
+    [CURVE, LISTED_CURVE].contains(&kind.number)
+}
+
+/// Parallel, short and long of a curve, in basis points: its own, or those that its edition lists for its code, where it
+/// lists them.
+pub fn shocks(curve: &Record) -> Option<[i64; 3]> {
+    match curve.kind.number {
+        LISTED_CURVE => listed_shocks(curve.one("edition"), Code::of_number(curve.one("code"))),
+        _ => Some(["parallel", "short", "long"].map(|name| curve.one(name))),
+    }
+}
 
 /// The rates of one currency in millionths: base first, then the six scenarios.
 #[derive(Clone, Debug)]
@@ -35,10 +52,11 @@ impl Curve {
     /// The curve of a record whose fields have been checked; refuses a shocked rate out of range, at the base rate of
     /// the lowest bucket that has one in any scenario.
     pub fn from_record(record: &Record) -> Result<Curve, Fault> {
+        let [parallel, short, long] = shocks(record).expect("the code has been checked");
         let mut rates = [[0; BUCKETS]; SCENARIOS + 1];
         for (bucket, base) in record.all("rates").iter().enumerate() {
             rates[0][bucket] = *base;
-            let changes = rate_changes(record.one("parallel"), record.one("short"), record.one("long"), bucket);
+            let changes = rate_changes(parallel, short, long, bucket);
             for (index, change) in changes.iter().enumerate() {
                 let (scenario, shocked) = (index + 1, base + change);
                 demand(RATES.contains(&shocked), 13, || {

@@ -1,4 +1,5 @@
-//! The table of records (01, "Records"), said once: reading, writing, checks and the text form all follow it.
+//! The table of records (01, "Records"; 02, requests 1 and 5), said once: reading, writing, checks and the text form all
+//! follow it.
 
 use crate::ladder::BUCKETS;
 
@@ -21,13 +22,16 @@ pub enum Item {
     OptionValue,
     Rate,
     Shock,
+    Edition,
+    Code,
 }
 
 impl Item {
     pub fn width(self) -> usize {
         match self {
-            Item::Currency | Item::Side | Item::Days | Item::Period | Item::Category => 1,
+            Item::Currency | Item::Side | Item::Days | Item::Period | Item::Category | Item::Edition => 1,
             Item::Months | Item::Count | Item::Share | Item::Shock => 2,
+            Item::Code => 3,
             Item::Amount | Item::OptionValue | Item::Rate => 4,
         }
     }
@@ -107,8 +111,9 @@ const COUPON: Field = one("coupon", Item::Amount);
 const PERIOD: Field = one("period", Item::Period);
 const COUNT: Field = one("count", Item::Count);
 const SHARE: Field = one("share", Item::Share);
+const RATES: Field = per_bucket("rates", Item::Rate);
 
-pub static KINDS: [Kind; 9] = [
+pub static KINDS: [Kind; 10] = [
     Kind { number: 1, name: "single-flow", fields: &[CURRENCY, SIDE, MONTHS, DAYS, one("amount", Item::Amount)] },
     Kind { number: 2, name: "fixed-coupons", fields: &[CURRENCY, SIDE, PERIOD, COUNT, COUPON, PRINCIPAL] },
     Kind { number: 3, name: "floating", fields: &[CURRENCY, SIDE, MONTHS, DAYS, PRINCIPAL, COUPON] },
@@ -136,18 +141,17 @@ pub static KINDS: [Kind; 9] = [
     Kind {
         number: 8,
         name: "curve",
-        fields: &[
-            CURRENCY,
-            per_bucket("rates", Item::Rate),
-            one("parallel", Item::Shock),
-            one("short", Item::Shock),
-            one("long", Item::Shock),
-        ],
+        fields: &[CURRENCY, RATES, one("parallel", Item::Shock), one("short", Item::Shock), one("long", Item::Shock)],
     },
     Kind {
         number: 9,
         name: "floating-spread",
         fields: &[CURRENCY, SIDE, MONTHS, DAYS, PRINCIPAL, COUPON, PERIOD, COUNT, one("spread", Item::Amount)],
+    },
+    Kind {
+        number: 10,
+        name: "listed-curve",
+        fields: &[CURRENCY, one("edition", Item::Edition), one("code", Item::Code), RATES],
     },
 ];
 

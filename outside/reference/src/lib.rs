@@ -1,5 +1,6 @@
 //! An independent implementation of documents 01 and 02, straightforward and slow, to compare the product with.
-//! It shares no code and no table with the product: what comes from the series is worked out from the series.
+//! It shares no code and no table with the product: what comes from the series is worked out from the series, and the
+//! listed shocks stand as the Committee prints them.
 //!
 //! `Request::answer` is the product's one call; `Answer::fill` says what the rooms then hold; `irreport` is the
 //! report program; `Exact` has the exact changes and the exact measure.
@@ -19,10 +20,11 @@ mod refusal;
 mod report;
 mod rounding;
 mod series;
+mod shock_lists;
 mod walk;
 
 pub use answer::{Answer, Request, GREATEST_CAPITAL, LONGEST_BOOK};
-pub use curve::{rate_changes, Curve};
+pub use curve::{is_curve, rate_changes, shocks, Curve};
 pub use discount::{computed_factor, exact_factor, exponent, meets_a_half};
 pub use exact::Exact;
 pub use fields::{periods_start, LAST_MONTH, RATES};
@@ -33,4 +35,5 @@ pub use ladder::{bucket_index, width, BUCKETS, MIDPOINTS, UPPER_ENDS};
 pub use layout::{split, step, Field, Item, Kind, Record, Step, CURRENCIES, KINDS, SCENARIOS};
 pub use refusal::Refusal;
 pub use report::{Return, Verdict, REPORT_CELLS};
+pub use shock_lists::{listed, listed_shocks, Code, Listed};
 pub use walk::{cell, Positions, LEDGER_CELLS};

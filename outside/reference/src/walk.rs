@@ -1,10 +1,10 @@
 //! The walk over the book, record by record (01, "Records", "Turned down").
 
-use crate::curve::Curve;
+use crate::curve::{is_curve, Curve};
 use crate::fields::check_fields;
 use crate::flows::{check_record, flows, Flows, GREATEST_GROSS};
 use crate::ladder::BUCKETS;
-use crate::layout::{step, Record, Step, CURRENCIES, SCENARIOS};
+use crate::layout::{step, Record, Step, CURRENCIES, KINDS, SCENARIOS};
 use crate::refusal::{demand, Fault, Refusal};
 
 pub const LEDGER_CELLS: usize = CURRENCIES * (SCENARIOS + 1) * BUCKETS;
@@ -36,7 +36,8 @@ pub fn walk(book: &[u8]) -> Result<Positions, Refusal> {
                 place += record.length();
             }
             Step::UnknownKind(number) => {
-                return Err(Fault::of_record(1, format!("kind is {number}, outside 1 to 9")).at(place));
+                let because = format!("kind is {number}, outside 1 to {}", KINDS.len());
+                return Err(Fault::of_record(1, because).at(place));
             }
             Step::CutShort { kind, left } => {
                 let because =
@@ -69,7 +70,7 @@ impl Positions {
         check_fields(record, |currency| self.curves[currency as usize - 1].is_some())?;
         check_record(record)?;
         let currency = record.currency_index();
-        if record.kind.number == 8 {
+        if is_curve(record.kind) {
             self.curves[currency] = Some(Curve::from_record(record)?);
             return Ok(());
         }

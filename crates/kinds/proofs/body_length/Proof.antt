@@ -3,7 +3,7 @@ use mathlib.Core.Path.{sym}
 use mathlib.Core.Bool.{false}
 use native.Mathlib.Omega.{arith}
 use Rattle.paper.specs.Records.{currencies}
-use Rattle.paper.proofs.KindTable.{row-1, row-2, row-3, row-4, row-5, row-6, row-7, row-8, row-9, row-length, none-such}
+use Rattle.paper.proofs.KindTable.{row-1, row-2, row-3, row-4, row-5, row-6, row-7, row-8, row-9, row-10, row-length, none-such}
 use Rattle.kinds.proofs.body_length.Statement.{statement}
 use Rattle.kinds.proofs.body_length.Tie as tie
 
@@ -35,7 +35,10 @@ returns-9 : tie.Need-returns-9
 returns-9 c = (row-length (row-9 currencies (λ _. false)) (c .match .keys9), omega arith)
 
 returns-10 : tie.Need-returns-10
-returns-10 c = (sym (none-such _ (c .match .rest)), omega arith)
+returns-10 c = (row-length (row-10 currencies (λ _. false)) (c .match .keys10), omega arith)
+
+returns-11 : tie.Need-returns-11
+returns-11 c = (sym (none-such _ (c .match .rest)), omega arith)
 
 pub body-length-spec : {M : Type 1} → statement M
 body-length-spec =
@@ -50,4 +53,5 @@ body-length-spec =
     returns-7
     returns-8
     returns-9
-    returns-10)
+    returns-10
+    returns-11)

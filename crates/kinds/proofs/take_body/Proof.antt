@@ -2,7 +2,7 @@
 use mathlib.Core.Bool.{false}
 use borrow.Author.Needs.{needs}
 use Rattle.paper.specs.Records.{currencies}
-use Rattle.paper.proofs.KindTable.{single-kind, coupons-kind, floating-kind, deposit-kind, loan-kind, term-deposit-kind, option-kind, curve-kind, floating-spread-kind, row-1, row-2, row-3, row-4, row-5, row-6, row-7, row-8, row-9}
+use Rattle.paper.proofs.KindTable.{single-kind, coupons-kind, floating-kind, deposit-kind, loan-kind, term-deposit-kind, option-kind, curve-kind, floating-spread-kind, listed-curve-kind, row-1, row-2, row-3, row-4, row-5, row-6, row-7, row-8, row-9, row-10}
 use Rattle.kinds.proofs.Bodies.{row-body, flow-parts, option-parts, rate-parts, flows-body, option-body, curve-body, unknown-body}
 use Rattle.kinds.proofs.take_body.Statement.{statement}
 use Rattle.kinds.proofs.take_body.Tie as tie
@@ -33,6 +33,9 @@ take-curve-requires c κs = let s = c .before .before .before .before .before in
 
 take-floating-spread-requires : tie.Need-take-floating-spread-requires
 take-floating-spread-requires c κs = let s = c .before .before .before .before .before .before in (row-body (row-9 currencies (λ _. false)) (c .before .before .match .keys9) (s .pre .0), flow-parts (s .pre .1))
+
+take-listed-curve-requires : tie.Need-take-listed-curve-requires
+take-listed-curve-requires c κs = let s = c .before .before .before .before .before in (row-body (row-10 currencies (λ _. false)) (c .before .match .keys10) (s .pre .0), rate-parts (s .pre .1))
 
 same-length : tie.Need-same-length
 same-length c = search needs
@@ -112,8 +115,14 @@ same-length-17 c = search needs
 returns-9 : tie.Need-returns-9
 returns-9 c = flows-body _ _ (c .before .before .before .before .before .before .before .before .before .before .pre .1) _ (row-9 currencies _) (c .before .before .before .before .before .before .match .keys9) (floating-spread-kind currencies (λ _. false) _ .only) (c .before .before .before .take-floating-spread .ensures)
 
+same-length-18 : tie.Need-same-length-18
+same-length-18 c = search needs
+
 returns-10 : tie.Need-returns-10
-returns-10 c = unknown-body _ _ _ _ (c .match .rest)
+returns-10 c = curve-body _ _ (c .before .before .before .before .before .before .before .pre .1) _ (row-10 currencies _) (c .before .before .before .match .keys10) (listed-curve-kind currencies _ _ .only) (c .before .take-listed-curve .ensures)
+
+returns-11 : tie.Need-returns-11
+returns-11 c = unknown-body _ _ _ _ (c .match .rest)
 
 pub take-body-spec : {M : Type 1} → statement M
 take-body-spec =
@@ -128,6 +137,7 @@ take-body-spec =
     take-option-requires
     take-curve-requires
     take-floating-spread-requires
+    take-listed-curve-requires
     same-length
     same-length-2
     returns
@@ -154,4 +164,6 @@ take-body-spec =
     same-length-16
     same-length-17
     returns-9
-    returns-10)
+    same-length-18
+    returns-10
+    returns-11)

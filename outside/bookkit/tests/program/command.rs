@@ -65,7 +65,7 @@ fn wrong_words_get_one_line() {
         assert_one_line(&bookkit(words), 2, &["is wanted"]);
     }
     assert_one_line(&bookkit(&["show", "/no/such/book"]), 2, &["/no/such/book: cannot be read"]);
-    assert_one_line(&bookkit(&["explain", "19"]), 2, &["1 to 18"]);
+    assert_one_line(&bookkit(&["explain", "21"]), 2, &["1 to 20"]);
     assert_one_line(&bookkit(&["explain", "four"]), 2, &["\"four\""]);
 }
 
@@ -85,5 +85,5 @@ fn the_example_in_the_help_can_be_made() {
         std::str::from_utf8(&help).unwrap().lines().filter(|line| line.starts_with("  ")).collect();
     let input = bookkit::make(example.join("\n").as_bytes()).expect("good lines");
     let refusal = bookkit::show_input(&input).refusal.expect("the raw bytes at its end");
-    assert_eq!((refusal.number, refusal.place, example.len()), (1, input.len() - 8 - 2, 11));
+    assert_eq!((refusal.number, refusal.place, example.len()), (1, input.len() - 8 - 2, 12));
 }

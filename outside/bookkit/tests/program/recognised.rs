@@ -52,11 +52,11 @@ fn a_book_in_the_wrong_hands() {
         assert_named(&["show", "--input"], &bare, &["a book without its capital", "bookkit show lists it"]);
         assert_named(&["make"], &bare, &["a book in bytes"]);
     }
-    for name in ["worked.input", "small-bank.input", "damaged.input"] {
+    for name in ["worked.input", "small-bank.input", "listed-curves.input", "damaged.input"] {
         assert_named(&["show"], &example(name), &["an input of irreport", "bookkit show --input"]);
         assert_named(&["make"], &example(name), &["a book in bytes"]);
     }
-    for name in ["worked.txt", "small-bank.txt", "damaged.txt"] {
+    for name in ["worked.txt", "small-bank.txt", "listed-curves.txt", "damaged.txt"] {
         assert_named(&["show"], &example(name), &["the text of a book", "bookkit make"]);
         assert_named(&["show", "--input"], &example(name), &["the text of a book", "bookkit make"]);
     }

@@ -30,6 +30,7 @@ fn words_of_a_text() {
         "term-deposit currency=1 share=1 amounts=BAD",
         "term-deposit currency=1 share=1 amounts=BAD:1",
         "term-deposit currency=1 share=1 amounts=1:BAD",
+        "listed-curve currency=1 edition=1 code=BAD rates=nil",
         "capital BAD",
         "raw BAD",
     ];

@@ -1,7 +1,7 @@
 //! The worked records: their bytes, as they were worked out by hand, say what stands beside them.
 
 use crate::page::{block, file, number, section, Said};
-use reference::{step, Record, Request, Step, KINDS};
+use reference::{step, Code, Record, Request, Step, KINDS};
 
 pub fn heading(kind: u8) -> String {
     format!("### Kind {kind}: `")
@@ -9,6 +9,11 @@ pub fn heading(kind: u8) -> String {
 
 fn bytes(lines: &[Said]) -> Vec<u8> {
     lines.iter().flat_map(|line| line.bytes.clone()).collect()
+}
+
+/// Three letters as the number that the layout reads from their bytes.
+pub fn code_number(code: &str) -> i64 {
+    Code(code.as_bytes().try_into().expect("three letters")).number()
 }
 
 /// The record of some lines, as the reference decodes it; they hold nothing else.
@@ -39,7 +44,8 @@ fn hold(line: &Said, record: &Record) -> usize {
         }
         _ => panic!("{words:?}"),
     };
-    assert!(values.iter().all(|found| *found == number(value)), "{words:?}: {values:?}");
+    let said = if words[0] == "code" { code_number(value) } else { number(value) };
+    assert!(values.iter().all(|found| *found == said), "{words:?}: {values:?}");
     let width = record.kind.fields.iter().find(|field| field.name == words[0]).map_or(1, |field| field.item.width());
     assert_eq!(line.bytes.len(), width * values.len(), "{words:?}");
     values.len()

@@ -1,7 +1,7 @@
 //! The table of what one field alone does not show: each row with a book, made from the worked records, that earns it.
 
 use crate::page::{number, table};
-use crate::records::{heading, worked};
+use crate::records::{code_number, heading, worked};
 use reference::{Record, Request};
 
 const WHOLE: &str = "the record's first byte";
@@ -25,7 +25,7 @@ fn offset(kind: u8, field: &str) -> usize {
 /// The place as the page says it in words, and as it then is in the book, from the page's offsets.
 #[test]
 fn each_rule_has_its_number_and_its_place() {
-    let (flow, curve) = (worked(1), worked(8));
+    let (flow, curve, listed) = (worked(1), worked(8), worked(10));
     let cut = &flow.bytes()[..9];
     let earned = [
         told(cut, 1),
@@ -41,6 +41,8 @@ fn each_rule_has_its_number_and_its_place() {
         told(&[], 0),
         told(&vec![0; 65_529], 1),
         Request { report_room: 57, ..Request::roomy(&[], 1) }.answer().refused(),
+        earned(&[curve.clone(), listed.with("edition", 0, 3)]),
+        earned(&[curve, listed.with("code", 0, code_number("eur"))]),
     ];
     let places = [
         (WHOLE, 0),
@@ -56,11 +58,22 @@ fn each_rule_has_its_number_and_its_place() {
         ("0", 0),
         ("0", 0),
         ("0", 0),
+        (WHOLE, 84),
+        (WHOLE, 84),
     ];
     let said = table("## What one field alone does not show", "Refusal");
     assert_eq!(said.iter().map(|row| row[2].as_str()).collect::<Vec<_>>(), places.map(|(words, _)| words));
     let said: Vec<_> = said.iter().zip(places).map(|(row, (_, place))| Some((number(&row[0]) as u8, place))).collect();
     assert_eq!(said, earned);
+}
+
+/// The rows of 12 and 13 speak of both kinds of curve; where one of kind 8 earns them is in the table's order above.
+#[test]
+fn a_listed_curve_earns_12_and_13_as_a_curve_does() {
+    let (curve, listed) = (worked(8).with("currency", 0, 2), worked(10));
+    assert_eq!(earned(&[curve.clone(), listed.clone()]), Some((12, 84)));
+    assert_eq!(earned(&[listed.clone(), curve]), Some((12, 82)));
+    assert_eq!(earned(&[listed.with("rates", 0, -50_000)]), Some((13, offset(10, "rates"))));
 }
 
 /// What the page says of amounts that go together beyond their own ranges passes at equality.

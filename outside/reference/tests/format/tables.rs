@@ -1,10 +1,10 @@
 //! Sizes, ladder, scenarios, categories and refusal numbers of the page.
 
-use crate::page::{number, table};
-use crate::records::{heading, worked};
+use crate::page::{number, section, table};
+use crate::records::{code_number, heading, worked};
 use reference::{
-    bucket_index, flows, rate_changes, width, Request, BUCKETS, CAPITAL_BYTES, CORE_CAPS, CURRENCIES, GREATEST_CAPITAL,
-    KINDS, LAST_MONTH, LONGEST_BOOK, MIDPOINTS, SCENARIOS, UPPER_ENDS,
+    bucket_index, flows, listed, rate_changes, shocks, width, Request, BUCKETS, CAPITAL_BYTES, CORE_CAPS, CURRENCIES,
+    GREATEST_CAPITAL, KINDS, LAST_MONTH, LONGEST_BOOK, MIDPOINTS, SCENARIOS, UPPER_ENDS,
 };
 use std::collections::BTreeSet;
 
@@ -80,10 +80,32 @@ fn the_categories() {
     assert_eq!(rows.iter().map(|row| number(&row[0])).collect::<Vec<_>>(), [1, 2, 3]);
 }
 
+/// All that the page lists, and nothing else, is what the reference lists.
+#[test]
+fn the_listed_shocks() {
+    let rows = table(&heading(10), "Code");
+    for (edition, columns) in [(1, 1..4), (2, 4..7)] {
+        let of_row = |row: &Vec<String>| {
+            let sizes: Vec<i64> = row[columns.clone()].iter().map(|size| number(size)).collect();
+            (code_number(&row[0]), sizes)
+        };
+        let due: Vec<_> = listed(edition).iter().map(|listed| (listed.code.number(), listed.shocks.to_vec())).collect();
+        assert_eq!(rows.iter().map(of_row).collect::<Vec<_>>(), due, "edition {edition}");
+    }
+}
+
+#[test]
+fn the_shocks_named_beside_the_worked_record_are_those_of_its_row() {
+    let said = section(&heading(10)).join(" ");
+    let [parallel, short, long] = shocks(&worked(10)).expect("a listed code");
+    let due = format!("The shocks are those of EUR in edition 1: parallel {parallel}, short {short} and long {long}.");
+    assert!(said.contains(&due), "{due}");
+}
+
 #[test]
 fn every_refusal_number_is_named() {
     let of_fields = KINDS.iter().flat_map(|kind| table(&heading(kind.number), "Offset")).map(|row| number(&row[5]));
     let of_rules = table("## What one field alone does not show", "Refusal").into_iter().map(|row| number(&row[0]));
     let named: BTreeSet<i64> = of_fields.chain(of_rules).collect();
-    assert!(named.into_iter().eq(1..=18));
+    assert!(named.into_iter().eq(1..=20));
 }

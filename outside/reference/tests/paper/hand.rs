@@ -48,6 +48,11 @@ pub fn flat_curve(currency: u8, rate: i32) -> Vec<u8> {
     curve(currency, [rate; 19], [0; 3])
 }
 
+/// The code is any three bytes.
+pub fn listed_curve(currency: u8, edition: u8, code: &[u8; 3], rates: [i32; 19]) -> Vec<u8> {
+    [&[10, currency, edition][..], code, &rates.map(i32::to_be_bytes).concat()].concat()
+}
+
 fn amounts(values: [u32; 19]) -> Vec<u8> {
     values.map(u32::to_be_bytes).concat()
 }

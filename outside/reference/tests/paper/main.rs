@@ -1,7 +1,8 @@
-//! The reference against document 01, paragraph by paragraph.
+//! The reference against documents 01 and 02, paragraph by paragraph.
 
 mod factors;
 mod hand;
+mod listed;
 mod numbers;
 mod order;
 mod refusals;

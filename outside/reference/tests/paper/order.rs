@@ -133,6 +133,24 @@ fn curve_in_turn() {
     ]);
 }
 
+/// Bucket 1 is out once shocked, bucket 19 as read: what is read comes first.
+#[test]
+fn listed_curve_in_turn() {
+    let last = |first, last| std::array::from_fn(|bucket| if bucket == 18 { last } else { first });
+    assert_turn(vec![
+        (listed_curve(9, 3, b"eur", [300_001; 19])[..81].to_vec(), Some((2, 0))),
+        (listed_curve(9, 3, b"eur", [300_001; 19]), Some((3, 1))),
+        (listed_curve(1, 3, b"eur", [300_001; 19]), Some((12, 0))),
+        (listed_curve(2, 3, b"eur", [300_001; 19]), Some((19, 0))),
+        (listed_curve(2, 2, b"eur", [300_001; 19]), Some((20, 0))),
+        (listed_curve(2, 2, b"EUR", [300_001; 19]), Some((13, 6))),
+        (listed_curve(2, 2, b"EUR", last(300_000, 300_001)), Some((13, 6 + 4 * 18))),
+        (listed_curve(2, 2, b"EUR", [300_000; 19]), Some((13, 6))),
+        (listed_curve(2, 2, b"EUR", last(100_000, 300_000)), Some((13, 6 + 4 * 18))),
+        (listed_curve(2, 2, b"EUR", [100_000; 19]), None),
+    ]);
+}
+
 #[test]
 fn rooms_then_length_then_capital_then_records() {
     let long = vec![0; 65_529];

@@ -23,7 +23,7 @@ fn nil() -> [u32; 19] {
     [0; 19]
 }
 
-/// One good record of each kind, in currency 1 but for the curve.
+/// One good record of each kind, in currency 1 but for the curves.
 fn one_of_each() -> Vec<Vec<u8>> {
     vec![
         single_flow(1, 1, 12, 3, 5),
@@ -35,13 +35,14 @@ fn one_of_each() -> Vec<Vec<u8>> {
         options(1, 1, [1, -2, 3, -4, 5, -6]),
         flat_curve(2, 10),
         floating_spread(floating(1, 2, 3, 30, 7, 1), 6, 5, 2),
+        listed_curve(2, 1, b"EUR", [10; 19]),
     ]
 }
 
 #[test]
 fn number_1_unknown_kind() {
     assert_in(one_of_each());
-    assert_out(1, 0, [vec![0], vec![10], vec![255], vec![10; 200]]);
+    assert_out(1, 0, [vec![0], vec![11], vec![255], vec![11; 200]]);
 }
 
 #[test]
@@ -52,7 +53,7 @@ fn number_2_body_cut_short() {
     let lengths: Vec<usize> = one_of_each().iter().map(|record| record.len() - 1).collect();
     assert_eq!(
         lengths,
-        [9, 13, 13, 82, 155, 79, 26, 83, 20],
+        [9, 13, 13, 82, 155, 79, 26, 83, 20, 81],
         "the hand that writes the records follows the paper's table"
     );
 }
@@ -66,7 +67,8 @@ fn number_3_bad_currency() {
         }
         for good in 1..=8 {
             let mut book = vec![in_currency(good)];
-            (1..=8).filter(|other| record[0] != 8 || *other != good).for_each(|other| book.push(flat_curve(other, 0)));
+            let is_curve = [8, 10].contains(&record[0]);
+            (1..=8).filter(|other| !is_curve || *other != good).for_each(|other| book.push(flat_curve(other, 0)));
             assert_eq!(refused(&book), None);
         }
     }

@@ -29,10 +29,12 @@ fn an_accepted_book_fills_58_and_1064_cells() {
 
 #[test]
 fn a_refused_record_leaves_the_report_and_zeros_the_ledger() {
-    let records = [flat_curve(1, 0), single_flow(1, 1, 0, 0, 5), vec![0]];
-    let (report, ledger) = rooms(&records, 1, 59, 1_065);
-    assert_eq!(report, [7; 59]);
-    assert_eq!((&ledger[..1_064], ledger[1_064]), (&[0; 1_064][..], 9));
+    let (edition_3, small_letters) = (listed_curve(2, 3, b"EUR", [0; 19]), listed_curve(2, 1, b"eur", [0; 19]));
+    for bad in [vec![0], edition_3, small_letters] {
+        let (report, ledger) = rooms(&[flat_curve(1, 0), single_flow(1, 1, 0, 0, 5), bad], 1, 59, 1_065);
+        assert_eq!(report, [7; 59]);
+        assert_eq!((&ledger[..1_064], ledger[1_064]), (&[0; 1_064][..], 9));
+    }
     let (report, ledger) = rooms(&[single_flow(1, 1, 0, 0, 5)], 1, 58, 1_064);
     assert_eq!((report, ledger), (vec![7; 58], vec![0; 1_064]), "15 as well");
 }

@@ -181,4 +181,5 @@ fn the_layout_writes_what_the_hand_writes() {
     assert_eq!(by_layout(8, [&[1][..], &[-7; 19], &[1, 2, 3]].concat()), curve(1, [-7; 19], [1, 2, 3]));
     let spread = floating_spread(floating(1, 2, 300, 5, 70_000, 7), 12, 25, 900);
     assert_eq!(by_layout(9, vec![1, 2, 300, 5, 70_000, 7, 12, 25, 900]), spread);
+    assert_eq!(by_layout(10, [&[1, 2, 0x45_55_52][..], &[-7; 19]].concat()), listed_curve(1, 2, b"EUR", [-7; 19]));
 }

@@ -1,0 +1,31 @@
+-- A line of a list as the code holds it, and what an answer means in the paper's words: the shocks listed, or the cause with its place.
+use Prim.Native.Nat.{ℕ, _+_, _*_}
+use mathlib.Core.Path.{_≡_}
+use Rattle.paper.specs.declared.Fault.{Fault}
+use Rattle.paper.specs.declared.Refusal.the-variants.{CodeNotListed}
+use Rattle.paper.specs.Refusals.{Checked, refused}
+use Rattle.paper.specs.Curve.{Shocks as PaperShocks}
+use Rattle.paper.specs.Published.{Sizes}
+use Rattle.curve.specs.declared.Shocks.{Shocks}
+use Rattle.fields.specs.Answers.{none, answerOf}
+use Rattle.published.specs.declared.Listed.{Listed}
+use Rattle.published.specs.declared.Listed.the-variants.{Are, Bad}
+
+-- three digits each; what is not listed has 0
+unfoldable pub inDigits : PaperShocks → ℕ
+inDigits s = s .parallel * 1000000 + s .short * 1000 + s .long
+
+abbrev pub typed : PaperShocks → Shocks
+typed s = record { parallel = s .parallel; short = s .short; long = s .long }
+
+abbrev pub listedOf : Checked PaperShocks → Listed
+listedOf = answerOf (λ s. Are (typed s)) Bad
+
+abbrev pub faultIn : Listed → Fault
+faultIn (Are s) = none
+faultIn (Bad f) = f
+
+-- what a line that was looked up is answered with
+pub record Says (line : ℕ) (answer : Listed) : Type 0 where
+  pub nothing : line ≡ 0 → answer ≡ listedOf (refused CodeNotListed 0)
+  pub something : (s : PaperShocks) → Sizes s → line ≡ inDigits s → answer ≡ Are (typed s)
