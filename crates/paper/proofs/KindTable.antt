@@ -33,8 +33,8 @@ four-each bytes o k t l = omega (arith, ltb-true k buckets t)
 abbrev Shocked : Curve → Type 0
 Shocked z = Between 0 1000 (z .shocks .parallel) × Between 0 1000 (z .shocks .short) × Between 0 1000 (z .shocks .long)
 
-as-typed : {shock : ℕ} → Size shock → Between 0 1000 shock
-as-typed s = record { from = omega arith; to = omega (arith, s .1) }
+in-typed-range : {shock : ℕ} → Size shock → Between 0 1000 shock
+in-typed-range s = record { from = omega arith; to = omega (arith, s .1) }
 
 module _ (top : ℕ) (curved : ℕ → Bool) (body : List ℕ) where
   pub single-kind : Kind top curved FlowsOnly 9 body (decodeSingle top body)
@@ -151,7 +151,7 @@ module _ (top : ℕ) (curved : ℕ → Bool) (body : List ℕ) where
       tested _ _ _ _ (in-whole refl refl) (λ e.
       chain (listed-known body 1) (λ s hs.
       chain (rates-known body 5 (omega arith)) (λ rs hr.
-      drawn-known 5 _ (omega arith) hc e hr (as-typed (hs .0), as-typed (hs .1), as-typed (hs .2))))))
+      drawn-known 5 _ (omega arith) hc e hr (in-typed-range (hs .0), in-typed-range (hs .1), in-typed-range (hs .2))))))
 
 -- ---- the table, row by row: the length of a body and its decoder; and none of them
 

@@ -23,6 +23,7 @@ pub mod Rate
 pub mod Walk
 pub mod Earlier
 pub mod OneCurve
+pub mod ListedCurve
 -- demand 3: the series, the factor, a change, the measure, the verdict, each against the exact one
 pub mod Terms
 pub mod SeriesLaws

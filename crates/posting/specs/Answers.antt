@@ -52,7 +52,7 @@ pub record OptionTaken (read : Checked Record) (sizes : List ℕ) (addOns : List
 abbrev pub TakesOption : Checked Record → Lent ℕ → Lent ℤ → Taken → Type 0
 TakesOption read sizes addOns answer = OptionTaken read (now (sizes .entry)) (now (addOns .entry)) answer (now (sizes .exit)) (now (addOns .exit))
 
--- ---- kind 8, in the 133 rates: 14 does not touch a curve
+-- ---- kinds 8 and 10, in the 133 rates: 14 does not touch a curve
 
 pub record CurveTaken (read : Checked Record) (rates : List ℤ) (answer : Taken) (rates' : List ℤ) : Type 0 where
   pub answered : answer ≡ takenOf read

@@ -20,6 +20,10 @@ use Rattle.published.specs.declared.Listed.{Listed}
 use Rattle.published.specs.declared.Listed.the-variants.{Are}
 use Rattle.published.specs.Lines.{inDigits, typed, listedOf, Says}
 
+-- ---- a code that a list has: an arm's line is that of its key
+pub line : (list : List Entry) {code key : ℕ} → code ≡ key → inDigits (shocksFor list key) ≡ inDigits (shocksFor list code)
+line list e = ap (λ (k : ℕ). inDigits (shocksFor list k)) (sym e)
+
 -- ---- a code that a list has not
 
 -- as a `match` tells it: none of the entries, one after the other

@@ -1,4 +1,4 @@
 -- kind 7
 pub mod Options
--- kind 8
+-- kinds 8 and 10
 pub mod Rates
