@@ -30,8 +30,8 @@ four-each : (bytes o k : ℕ) → (k below buckets) ≡ true → o + 4 * buckets
 four-each bytes o k t l = omega (arith, ltb-true k buckets t)
 
 -- shocks that lie in the range of typed ones
-abbrev Shocked : Curve → Type 0
-Shocked z = Between 0 1000 (z .shocks .parallel) × Between 0 1000 (z .shocks .short) × Between 0 1000 (z .shocks .long)
+abbrev ShocksRanged : Curve → Type 0
+ShocksRanged z = Between 0 1000 (z .shocks .parallel) × Between 0 1000 (z .shocks .short) × Between 0 1000 (z .shocks .long)
 
 in-typed-range : {shock : ℕ} → Size shock → Between 0 1000 shock
 in-typed-range s = record { from = omega arith; to = omega (arith, s .1) }
@@ -108,7 +108,7 @@ module _ (top : ℕ) (curved : ℕ → Bool) (body : List ℕ) where
       known {a = option c s vs} (record { own = refl; only = record { position = refl; no-flow = λ i k. refl; no-rate = λ i k. refl }; sound = (hc, hs, hv) }))))
 
   -- a curve of a fresh currency, its rates from o on
-  drawn-known : {bytes c : ℕ} (o : ℕ) (z : Curve) → o + 4 * buckets ≤ bytes → Between 1 top c → curved c ≡ false → Listed Ranged buckets (z .rates) → Shocked z
+  drawn-known : {bytes c : ℕ} (o : ℕ) (z : Curve) → o + 4 * buckets ≤ bytes → Between 1 top c → curved c ≡ false → Listed Ranged buckets (z .rates) → ShocksRanged z
       → Checks (Inside bytes) (Reads top curved CurveOnly c) (drawn c z o)
   unfolding Sound currencyOf isCurve flow adds touchesNothing numberOf ofField
   drawn-known {c = c} o z l hc e hr (hp, hh, hg) =

@@ -11,7 +11,7 @@ use Rattle.laws.specs.Tests.{_is_, _upTo_, all, first}
 use Rattle.laws.proofs.Tests.{lt-or-ge, and-true, all-at}
 use Rattle.paper.specs.Refusals.{numberOf, ofField}
 use Rattle.paper.specs.Curve.{Shocks}
-use Rattle.paper.specs.Published.{codeOf, Entry, edition1, edition2, listOf, none, codeAt, lineOf, shocksFor, Size, Sizes, Published}
+use Rattle.paper.specs.Published.{codeOf, Entry, edition1, edition2, listOf, unlisted, codeAt, lineOf, shocksFor, Size, Sizes, Published}
 use Rattle.paper.specs.TurnedDown.{codeNotListed}
 use Rattle.paper.specs.Fields.{listedAt}
 use Rattle.paper.specs.Book.{touchesNothing}
@@ -27,7 +27,7 @@ inSizes shocks = inSize (shocks .parallel) && (inSize (shocks .short) && inSize 
 
 -- the entry's shocks, and that its code is nowhere before it
 rightly : ℕ → ℕ → Bool
-rightly edition j = inSizes (getD (listOf edition) j none .shocks) && lineOf (listOf edition) (codeAt (listOf edition) j) is j
+rightly edition j = inSizes (getD (listOf edition) j unlisted .shocks) && lineOf (listOf edition) (codeAt (listOf edition) j) is j
 
 -- no edition 0, then 1 and 2
 each-right : all (λ edition. all (rightly edition) 0 (length (listOf edition))) 0 3 ≡ true
@@ -61,11 +61,11 @@ module _ (edition : ℕ) where
   abbrev list : List Entry
   list = listOf edition
 
-  both : (j : ℕ) → j < length list → (inSizes (getD list j none .shocks) ≡ true) × ((lineOf list (codeAt list j) is j) ≡ true)
+  both : (j : ℕ) → j < length list → (inSizes (getD list j unlisted .shocks) ≡ true) × ((lineOf list (codeAt list j) is j) ≡ true)
   unfolding rightly
-  both j l = and-true (inSizes (getD list j none .shocks)) (lineOf list (codeAt list j) is j) (right-at edition j l)
+  both j l = and-true (inSizes (getD list j unlisted .shocks)) (lineOf list (codeAt list j) is j) (right-at edition j l)
 
-  entry-sized : (j : ℕ) → j < length list → Sizes (getD list j none .shocks)
+  entry-sized : (j : ℕ) → j < length list → Sizes (getD list j unlisted .shocks)
   entry-sized j l = sizes-tested _ (both j l .0)
 
   own-line : (j : ℕ) → j < length list → lineOf list (codeAt list j) ≡ j

@@ -77,18 +77,18 @@ unfoldable pub listOf : ℕ → List Entry
 listOf edition = getD ([] ∷ edition1 ∷ edition2 ∷ []) edition []
 
 -- what is read past the end of a list
-abbrev pub none : Entry
-none = record { code = 0; shocks = record { parallel = 0; short = 0; long = 0 } }
+abbrev pub unlisted : Entry
+unlisted = record { code = 0; shocks = record { parallel = 0; short = 0; long = 0 } }
 
 abbrev pub codeAt : List Entry → ℕ → ℕ
-codeAt list j = getD list j none .code
+codeAt list j = getD list j unlisted .code
 
 -- where a list has a code, from 0; its end where it has not
 unfoldable pub lineOf : List Entry → ℕ → ℕ
 lineOf list code = first (λ j. codeAt list j is code) 0 (length list)
 
 unfoldable pub shocksFor : List Entry → ℕ → Shocks
-shocksFor list code = getD list (lineOf list code) none .shocks
+shocksFor list code = getD list (lineOf list code) unlisted .shocks
 
 -- ---- what is claimed of each edition: theorem `editions-published`, by one computed test over both
 
@@ -100,5 +100,5 @@ abbrev pub Sizes : Shocks → Type 0
 Sizes shocks = Size (shocks .parallel) × Size (shocks .short) × Size (shocks .long)
 
 pub record Published (list : List Entry) : Type 0 where
-  pub sized : (j : ℕ) → j < length list → Sizes (getD list j none .shocks)
+  pub sized : (j : ℕ) → j < length list → Sizes (getD list j unlisted .shocks)
   pub distinct : (i j : ℕ) → i < length list → j < length list → codeAt list i ≡ codeAt list j → i ≡ j

@@ -12,13 +12,13 @@ use Rattle.laws.proofs.Tests.{lt-or-ge, and-true, none-first}
 use Rattle.paper.specs.declared.Refusal.the-variants.{UnknownEdition, CodeNotListed}
 use Rattle.paper.specs.Refusals.{accepted, refused, _>>_, unless}
 use Rattle.paper.specs.Curve.{Shocks as PaperShocks}
-use Rattle.paper.specs.Published.{Entry, none, codeAt, lineOf, listOf, shocksFor, Sizes}
+use Rattle.paper.specs.Published.{Entry, unlisted, codeAt, lineOf, listOf, shocksFor, Sizes}
 use Rattle.paper.specs.TurnedDown.{unknownEdition, codeNotListed}
 use Rattle.paper.specs.Fields.{byte, three, listedAt}
 use Rattle.paper.proofs.Published.{listed-sized}
-use Rattle.published.specs.declared.Listed.{Listed}
-use Rattle.published.specs.declared.Listed.the-variants.{Are}
-use Rattle.published.specs.Lines.{inDigits, typed, listedOf, Says}
+use Rattle.published.specs.declared.ListedShocks.{ListedShocks}
+use Rattle.published.specs.declared.ListedShocks.the-variants.{Are}
+use Rattle.published.specs.Lines.{inDigits, held, listedOf, Says}
 
 -- ---- a code that a list has: an arm's line is that of its key
 pub line : (list : List Entry) {code key : ℕ} → code ≡ key → inDigits (shocksFor list key) ≡ inDigits (shocksFor list code)
@@ -41,7 +41,7 @@ none-of (e ∷ es) code {P} h = let rest = none-of es code h in (rest .0 .0, dif
 
 past-end : (list : List Entry) (code : ℕ) → length list ≤ lineOf list code → inDigits (shocksFor list code) ≡ 0
 unfolding shocksFor inDigits
-past-end list code l = ap (λ (e : Entry). inDigits (e .shocks)) (List·getD-eq-default list none {n = lineOf list code} l)
+past-end list code l = ap (λ (e : Entry). inDigits (e .shocks)) (List·getD-eq-default list unlisted {n = lineOf list code} l)
 
 pub not-listed : (list : List Entry) (code : ℕ) → NotIn Unit list code → inDigits (shocksFor list code) ≡ 0
 unfolding lineOf
@@ -66,7 +66,7 @@ module _ (body : List ℕ) (o : ℕ) (edition : ℕ) (list : List Entry) (named 
   unfolding codeNotListed
   no-line t = ltb-false _ _ (not-true _ t)
 
-  pub listed-in : {line : ℕ} {answer : Listed} → line ≡ inDigits (shocksFor list code) → Says line answer → answer ≡ listedOf (listedAt body o)
+  pub listed-in : {line : ℕ} {answer : ListedShocks} → line ≡ inDigits (shocksFor list code) → Says line answer → answer ≡ listedOf (listedAt body o)
   listed-in {line} {answer} e says = by (codeNotListed edition code) refl
     where
       looked : line ≡ inDigits (shocksFor (listOf edition) code)
@@ -91,7 +91,7 @@ no-edition body o first second = by (unknownEdition (byte body o)) refl
 
 -- ---- a line taken apart
 
-module _ {line : ℕ} {answer : Listed} where
+module _ {line : ℕ} {answer : ListedShocks} where
   pub says-nothing : line ≡ 0 → answer ≡ listedOf (refused CodeNotListed 0) → Says line answer
   unfolding inDigits
   says-nothing e told = record { nothing = λ _. told; something = λ s sizes f. absurd (omega (arith, e, f, sizes .0 .0)) }
@@ -100,7 +100,7 @@ module _ {line : ℕ} {answer : Listed} where
   unfolding inDigits
   says-something l told = record { nothing = λ e. absurd (omega (arith, e)); something = apart }
     where
-      apart : (s : PaperShocks) → Sizes s → line ≡ inDigits s → answer ≡ Are (typed s)
+      apart : (s : PaperShocks) → Sizes s → line ≡ inDigits s → answer ≡ Are (held s)
       apart s sizes f =
           let parallel : line / 1000000 ≡ s .parallel = omega (arith, f, sizes .1 .1, sizes .2 .1) in
           let short : line / 1000 % 1000 ≡ s .short = omega (arith, f, sizes .1 .1, sizes .2 .1) in

@@ -8,24 +8,24 @@ use Rattle.paper.specs.Curve.{Shocks as PaperShocks}
 use Rattle.paper.specs.Published.{Sizes}
 use Rattle.curve.specs.declared.Shocks.{Shocks}
 use Rattle.fields.specs.Answers.{none, answerOf}
-use Rattle.published.specs.declared.Listed.{Listed}
-use Rattle.published.specs.declared.Listed.the-variants.{Are, Bad}
+use Rattle.published.specs.declared.ListedShocks.{ListedShocks}
+use Rattle.published.specs.declared.ListedShocks.the-variants.{Are, Bad}
 
 -- three digits each; what is not listed has 0
 unfoldable pub inDigits : PaperShocks → ℕ
 inDigits s = s .parallel * 1000000 + s .short * 1000 + s .long
 
-abbrev pub typed : PaperShocks → Shocks
-typed s = record { parallel = s .parallel; short = s .short; long = s .long }
+abbrev pub held : PaperShocks → Shocks
+held s = record { parallel = s .parallel; short = s .short; long = s .long }
 
-abbrev pub listedOf : Checked PaperShocks → Listed
-listedOf = answerOf (λ s. Are (typed s)) Bad
+abbrev pub listedOf : Checked PaperShocks → ListedShocks
+listedOf = answerOf (λ s. Are (held s)) Bad
 
-abbrev pub faultIn : Listed → Fault
+abbrev pub faultIn : ListedShocks → Fault
 faultIn (Are s) = none
 faultIn (Bad f) = f
 
 -- what a line that was looked up is answered with
-pub record Says (line : ℕ) (answer : Listed) : Type 0 where
+pub record Says (line : ℕ) (answer : ListedShocks) : Type 0 where
   pub nothing : line ≡ 0 → answer ≡ listedOf (refused CodeNotListed 0)
-  pub something : (s : PaperShocks) → Sizes s → line ≡ inDigits s → answer ≡ Are (typed s)
+  pub something : (s : PaperShocks) → Sizes s → line ≡ inDigits s → answer ≡ Are (held s)

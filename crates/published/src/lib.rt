@@ -117,18 +117,18 @@ fn edition_2(code: u32) -> u32
     }
 }
 
-pub enum Listed {
+pub enum ListedShocks {
     Are(Shocks),
     Bad(Fault),
 }
 
-impl Listed {
+impl ListedShocks {
     pub fn fault(self) -> Fault
         ensures { λ r. ⌜ r ≡ faultIn self ⌝ }
     {
         match self {
-            Listed::Bad(fault) => fault,
-            Listed::Are(_) => Fault {
+            ListedShocks::Bad(fault) => fault,
+            ListedShocks::Are(_) => Fault {
                 cause: Refusal::UnknownKind,
                 place: 0,
             },
@@ -137,19 +137,19 @@ impl Listed {
 }
 
 // Both refusals are told of the record as a whole.
-fn refused(cause: Refusal) -> Listed
+fn refused(cause: Refusal) -> ListedShocks
     ensures { λ r. ⌜ r ≡ listedOf (refused cause 0) ⌝ }
 {
-    Listed::Bad(Fault { cause, place: 0 })
+    ListedShocks::Bad(Fault { cause, place: 0 })
 }
 
-fn taken_apart(line: u32) -> Listed
+fn taken_apart(line: u32) -> ListedShocks
     ensures { λ r. ⌜ Says line r ⌝ }
 {
     if line == 0 {
         return refused(Refusal::CodeNotListed);
     }
-    Listed::Are(Shocks {
+    ListedShocks::Are(Shocks {
         parallel: line / 1_000_000,
         short: line / 1_000 % 1_000,
         long: line % 1_000,
@@ -157,7 +157,7 @@ fn taken_apart(line: u32) -> Listed
 }
 
 // An edition (1 byte) and a code (3), and the shocks that are listed.
-pub fn listed_at(body: &[u8], at: usize) -> Listed
+pub fn listed_at(body: &[u8], at: usize) -> ListedShocks
     requires { ⌜ at + 4 ≤ length (now body) ⌝ }
     ensures { λ r. ⌜ r ≡ listedOf (listedAt (now (body .entry)) at) ⌝ }
 {

@@ -5,8 +5,7 @@ ghost use Prim.Native.Nat.{_≤_};
 ghost use Rattle.paper.specs.Ladder.{buckets};
 ghost use Rattle.paper.specs.Records.{currencies};
 ghost use Rattle.paper.specs.Decode.{drawn, decodeCurve, decodeListedCurve};
-ghost use Rattle.paper.specs.Sound.{Ranged};
-ghost use Rattle.paper.specs.Sound.{Listed as ListOf};
+ghost use Rattle.paper.specs.Sound.{Ranged, Listed};
 ghost use Rattle.curve.specs.Shocked.{curveOf, Sized};
 ghost use Rattle.record.specs.Answers.{Body, curveRead, drawnOf};
 use crate::record_fault;
@@ -19,7 +18,7 @@ use fields::shock_at;
 use paper::BUCKETS;
 use paper::Fault;
 use paper::Refusal;
-use published::Listed;
+use published::ListedShocks;
 use published::listed_at;
 
 pub struct Curve {
@@ -34,7 +33,7 @@ pub enum DecodedCurve {
 
 // Shocked rates come last. The rates begin at `from` in the body.
 fn drawn(currency: u32, shocks: Shocks, rates: &[i64], from: usize) -> DecodedCurve
-    requires { ⌜ ListOf Ranged buckets (now rates) ⌝ }
+    requires { ⌜ Listed Ranged buckets (now rates) ⌝ }
     requires { ⌜ Sized shocks × (from ≤ 5) ⌝ }
     ensures { λ r. ⌜ r ≡ drawnOf currency shocks (drawn currency (curveOf (now (rates .entry)) shocks) from) ⌝ }
 {
@@ -90,7 +89,7 @@ pub fn decode_listed_curve(currency: u32, curved: bool, body: &[u8]) -> DecodedC
         return DecodedCurve::Refused(record_fault(Refusal::SecondCurve));
     }
     let read = listed_at(body, 1);
-    let Listed::Are(shocks) = read else {
+    let ListedShocks::Are(shocks) = read else {
         return DecodedCurve::Refused(read.fault());
     };
     let mut rates = [0i64; BUCKETS];

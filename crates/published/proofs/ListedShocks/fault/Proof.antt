@@ -1,7 +1,7 @@
--- `Listed::fault` meets its contract, variant by variant.
+-- `ListedShocks::fault` meets its contract, variant by variant.
 use borrow.Author.Needs.{needs}
-use Rattle.published.proofs.Listed.fault.Statement.{statement}
-use Rattle.published.proofs.Listed.fault.Tie as tie
+use Rattle.published.proofs.ListedShocks.fault.Statement.{statement}
+use Rattle.published.proofs.ListedShocks.fault.Tie as tie
 
 returns-2 : tie.Need-returns-2
 returns-2 c = rw (c .enum-told .given .1)
