@@ -9,7 +9,8 @@ use Rattle.laws.specs.Nearest.{nearestℤ}
 use Rattle.laws.proofs.Tests.{lt-or-ge}
 use Rattle.laws.proofs.Ring.{add-neg-mul, add-zero-mul}
 use Rattle.paper.specs.Scales.{billion}
-use Rattle.paper.specs.Curve.{Shocks, rateChanges}
+use Rattle.paper.specs.declared.Shocks.{Shocks}
+use Rattle.paper.specs.Curve.{rateChanges}
 use Rattle.curve.specs.Shocked.{twisted}
 
 module _ (shocks : Shocks) (s : ℕ) where

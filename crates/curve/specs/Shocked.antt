@@ -5,17 +5,13 @@ use lib.IntN.{ℤ, pos, _+ℤ_, _-ℤ_, _*ℤ_}
 use Rattle.laws.specs.Nearest.{nearestℤ}
 use Rattle.laws.specs.Lists.{tabulate}
 use Rattle.paper.specs.Scales.{billion}
+use Rattle.paper.specs.declared.Shocks.{Shocks}
 use Rattle.paper.specs.Curve.{Curve, shortShare, shockedRate}
-use Rattle.paper.specs.Curve.{Shocks as PaperShocks}
 use Rattle.paper.specs.Ladder.{buckets}
 use Rattle.paper.specs.Ledger.{sectionSize}
-use Rattle.curve.specs.declared.Shocks.{Shocks}
-
-abbrev pub shocksOf : Shocks → PaperShocks
-shocksOf s = record { parallel = s .parallel; short = s .short; long = s .long }
 
 abbrev pub curveOf : List ℤ → Shocks → Curve
-curveOf rates s = record { rates = rates; shocks = shocksOf s }
+curveOf rates s = record { rates = rates; shocks = s }
 
 -- 0 to 1,000 basis points
 pub record Sized (s : Shocks) : Type 0 where
@@ -24,7 +20,7 @@ pub record Sized (s : Shocks) : Type 0 where
   pub long-most : s .long ≤ 1000
 
 -- so much of the short shock by s, and so much of the long one by the rest, rounded once: the form of the last four changes
-unfoldable pub twisted : PaperShocks → ℕ → ℤ → ℤ → ℤ
+unfoldable pub twisted : Shocks → ℕ → ℤ → ℤ → ℤ
 twisted shocks s short long =
     nearestℤ (short *ℤ pos (shocks .short) *ℤ pos s +ℤ long *ℤ pos (shocks .long) *ℤ (pos billion -ℤ pos s)) billion
 

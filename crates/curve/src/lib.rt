@@ -11,18 +11,12 @@ ghost use Rattle.paper.specs.Ledger.{sectionSize};
 ghost use Rattle.paper.specs.Curve.{rateChanges, shockedRate};
 ghost use Rattle.paper.specs.TurnedDown.{badShocked};
 ghost use Rattle.paper.specs.Sound.{Ranged, Listed};
-ghost use Rattle.curve.specs.Shocked.{shocksOf, curveOf, Sized, twisted, shortShares, shockedSection};
+ghost use Rattle.curve.specs.Shocked.{curveOf, Sized, twisted, shortShares, shockedSection};
 use paper::BUCKETS;
 use paper::SCENARIOS;
+use paper::Shocks;
 use scales::Millionths;
 use signed::rounded;
-
-// Shock sizes, in basis points.
-pub struct Shocks {
-    pub parallel: u32,
-    pub short: u32,
-    pub long: u32,
-}
 
 // s, in billionths, of each bucket.
 const SHORT_SHARES: [u32; BUCKETS] = [
@@ -65,7 +59,7 @@ fn weighed(weight: i64, shock: u32, share: i64) -> i64
 fn twist(shocks: Shocks, share: u32, short: i64, long: i64) -> Millionths
     requires { ⌜ Sized shocks ⌝ }
     requires { ⌜ (share ≤ billion) × ((natAbs short ≤ 100) × (natAbs long ≤ 100)) ⌝ }
-    ensures { λ r. ⌜ r .0 ≡ twisted (shocksOf shocks) share short long ⌝ }
+    ensures { λ r. ⌜ r .0 ≡ twisted shocks share short long ⌝ }
     ensures { λ r. ⌜ natAbs (r .0) ≤ 200_000 ⌝ }
 {
     let s = share as i64;
@@ -78,7 +72,7 @@ fn twist(shocks: Shocks, share: u32, short: i64, long: i64) -> Millionths
 fn change(shocks: Shocks, share: u32, scenario: usize) -> Millionths
     requires { ⌜ Sized shocks ⌝ }
     requires { ⌜ share ≤ billion ⌝ }
-    ensures { λ r. ⌜ r .0 ≡ getD (rateChanges (shocksOf shocks) share) scenario (pos 0) ⌝ }
+    ensures { λ r. ⌜ r .0 ≡ getD (rateChanges shocks share) scenario (pos 0) ⌝ }
     ensures { λ r. ⌜ natAbs (r .0) ≤ 200_000 ⌝ }
 {
     let p = shocks.parallel as i64;

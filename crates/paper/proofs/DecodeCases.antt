@@ -17,7 +17,7 @@ use Rattle.paper.specs.Curve.{shortShare, rateChanges, shockedRate}
 use Rattle.paper.specs.Records.{Record, flows, single, coupons, floating, deposit, loan, termDeposit, floatingSpread, option, curve, currencies}
 use Rattle.paper.specs.Behaviour.{weighedCore, scheduledAt}
 use Rattle.paper.specs.TurnedDown.{badCurrency, badSide, badMonths, badDays, badPeriod, badCount, badAmount, badOption, badShare, badCategory, coreAboveCap, coreTooLong, interestAlone, secondCurve, badRate, badShock, badShocked, scheduleOver, unknownEdition, codeNotListed}
-use Rattle.paper.specs.Letters.{D, E, J, N, P, R, S, U, Y, Z}
+use Rattle.paper.specs.Letters.{D, J, N, P, S, U, Y, Z}
 use Rattle.paper.specs.Published.{edition1, edition2, listOf, lineOf, shocksFor}
 use Rattle.paper.specs.Fields.{signed, field, listedAt, each}
 use Rattle.paper.specs.Decode.{decodeSingle, decodeCoupons, decodeFloating, decodeDeposit, decodeLoan, decodeTermDeposit, decodeOption, decodeCurve, decodeFloatingSpread, decodeListedCurve, decode}
@@ -106,8 +106,6 @@ bodies =
     ∷ (freshly 10 (listedBody 8 2 (U ∷ S ∷ 32 ∷ []) (rates 19 (in4 0))) means refused CodeNotListed 0)
     ∷ (freshly 10 (listedBody 8 1 (U ∷ S ∷ D ∷ []) (rates 18 (in4 0) ++ in4 300001)) means refused OutOfRange 78)
     ∷ (freshly 10 (listedBody 8 2 (J ∷ P ∷ Y ∷ []) (rates 1 (in4 0) ++ in4 290001 ++ rates 17 (in4 0))) means refused OutOfRange 10)
-    ∷ (freshly 10 (listedBody 8 1 (E ∷ U ∷ R ∷ []) (rates 19 (in4 0))) means accepted (curve 8 (record { rates = replicate 19 (pos 0); shocks = record { parallel = 200; short = 250; long = 100 } })))
-    ∷ (freshly 10 (listedBody 8 2 (E ∷ U ∷ R ∷ []) (rates 19 (in4 0))) means accepted (curve 8 (record { rates = replicate 19 (pos 0); shocks = record { parallel = 225; short = 350; long = 200 } })))
     ∷ []
 
 pub bodies-mean : map (λ r. r .body) bodies ≡ map (λ r. r .is) bodies

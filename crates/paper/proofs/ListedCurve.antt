@@ -10,7 +10,8 @@ use Rattle.paper.specs.declared.Refusal.{Refusal}
 use Rattle.paper.specs.declared.Refusal.the-variants.{BadCurrency, SecondCurve, OutOfRange}
 use Rattle.paper.specs.Refusals.{Checked, accepted, refused, _>>=_, _>>_, unless, refuseIf}
 use Rattle.paper.specs.Ladder.{buckets}
-use Rattle.paper.specs.Curve.{Curve, Shocks}
+use Rattle.paper.specs.declared.Shocks.{Shocks}
+use Rattle.paper.specs.Curve.{Curve}
 use Rattle.paper.specs.Records.{curve}
 use Rattle.paper.specs.Published.{listOf, shocksFor, Sizes}
 use Rattle.paper.specs.TurnedDown.{badCurrency, secondCurve, badRate, badShock, badShocked}

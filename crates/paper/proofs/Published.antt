@@ -10,7 +10,7 @@ use lib.ListN.{length, getD, List·getD-eq-default}
 use Rattle.laws.specs.Tests.{_is_, _upTo_, all, first}
 use Rattle.laws.proofs.Tests.{lt-or-ge, and-true, all-at}
 use Rattle.paper.specs.Refusals.{numberOf, ofField}
-use Rattle.paper.specs.Curve.{Shocks}
+use Rattle.paper.specs.declared.Shocks.{Shocks}
 use Rattle.paper.specs.Published.{codeOf, Entry, edition1, edition2, listOf, unlisted, codeAt, lineOf, shocksFor, Size, Sizes, Published}
 use Rattle.paper.specs.TurnedDown.{codeNotListed}
 use Rattle.paper.specs.Fields.{listedAt}

@@ -4,14 +4,10 @@ use mathlib.Core.List.{List, [], _∷_}
 use lib.IntN.{ℤ, pos, negℤ, _+ℤ_, _-ℤ_, _*ℤ_}
 use lib.ListN.{getD}
 use Rattle.laws.specs.Nearest.{nearestℤ}
+use Rattle.paper.specs.declared.Shocks.{Shocks}
 use Rattle.paper.specs.Scales.{yearScale, exponentScale, billion}
 use Rattle.paper.specs.Ladder.{midpoint}
 use Rattle.paper.specs.Series.{billionOverE}
-
-pub record Shocks : Type 0 where
-  pub parallel : ℕ
-  pub short : ℕ
-  pub long : ℕ
 
 pub record Curve : Type 0 where
   pub rates : List ℤ

@@ -9,7 +9,7 @@ use Rattle.laws.specs.Tests.{if_then_else_, _below_}
 use Rattle.paper.specs.declared.Refusal.{Refusal}
 use Rattle.paper.specs.declared.Refusal.the-variants.{BadCurrency, BadSide, BadTerm, TooLarge, BadShare, BadCategory, OutOfRange, UnknownEdition, CodeNotListed}
 use Rattle.paper.specs.Refusals.{Checked, accepted, _>>=_, _>>_, unless, refuseIf}
-use Rattle.paper.specs.Curve.{Shocks}
+use Rattle.paper.specs.declared.Shocks.{Shocks}
 use Rattle.paper.specs.Published.{codeOf, listOf, shocksFor}
 use Rattle.paper.specs.TurnedDown.{badCurrency, badSide, badMonths, badDays, badPeriod, badCount, badAmount, badOption, badShare, badCategory, badRate, badShock, unknownEdition, codeNotListed}
 

@@ -4,7 +4,7 @@ use mathlib.Core.List.{List, [], _∷_}
 use mathlib.Core.Path.{_≡_}
 use lib.ListN.{length, getD}
 use Rattle.laws.specs.Tests.{_is_, first}
-use Rattle.paper.specs.Curve.{Shocks}
+use Rattle.paper.specs.declared.Shocks.{Shocks}
 use Rattle.paper.specs.Letters.{A, B, C, D, E, F, G, H, I, J, K, L, M, N, P, R, S, T, U, W, X, Y, Z}
 
 -- a code is three bytes, read as one number

@@ -77,6 +77,13 @@ pub struct Fault {
     pub place: usize,
 }
 
+// Shock sizes, in basis points.
+pub struct Shocks {
+    pub parallel: u32,
+    pub short: u32,
+    pub long: u32,
+}
+
 // The verdict against Tier 1 capital. `verdictNumber` in specs/Verdict.antt gives each one's number.
 pub enum Verdict {
     Over,

@@ -11,14 +11,14 @@ use Rattle.laws.specs.Tests.{_is_, _upTo_}
 use Rattle.laws.proofs.Tests.{lt-or-ge, and-true, none-first}
 use Rattle.paper.specs.declared.Refusal.the-variants.{UnknownEdition, CodeNotListed}
 use Rattle.paper.specs.Refusals.{accepted, refused, _>>_, unless}
-use Rattle.paper.specs.Curve.{Shocks as PaperShocks}
+use Rattle.paper.specs.declared.Shocks.{Shocks}
 use Rattle.paper.specs.Published.{Entry, unlisted, codeAt, lineOf, listOf, shocksFor, Sizes}
 use Rattle.paper.specs.TurnedDown.{unknownEdition, codeNotListed}
 use Rattle.paper.specs.Fields.{byte, three, listedAt}
 use Rattle.paper.proofs.Published.{listed-sized}
 use Rattle.published.specs.declared.ListedShocks.{ListedShocks}
 use Rattle.published.specs.declared.ListedShocks.the-variants.{Are}
-use Rattle.published.specs.Lines.{inDigits, held, listedOf, Says}
+use Rattle.published.specs.Lines.{inDigits, listedOf, Says}
 
 -- ---- a code that a list has: an arm's line is that of its key
 pub line : (list : List Entry) {code key : ℕ} → code ≡ key → inDigits (shocksFor list key) ≡ inDigits (shocksFor list code)
@@ -100,7 +100,7 @@ module _ {line : ℕ} {answer : ListedShocks} where
   unfolding inDigits
   says-something l told = record { nothing = λ e. absurd (omega (arith, e)); something = apart }
     where
-      apart : (s : PaperShocks) → Sizes s → line ≡ inDigits s → answer ≡ Are (held s)
+      apart : (s : Shocks) → Sizes s → line ≡ inDigits s → answer ≡ Are s
       apart s sizes f =
           let parallel : line / 1000000 ≡ s .parallel = omega (arith, f, sizes .1 .1, sizes .2 .1) in
           let short : line / 1000 % 1000 ≡ s .short = omega (arith, f, sizes .1 .1, sizes .2 .1) in

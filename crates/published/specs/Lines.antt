@@ -2,24 +2,20 @@
 use Prim.Native.Nat.{ℕ, _+_, _*_}
 use mathlib.Core.Path.{_≡_}
 use Rattle.paper.specs.declared.Fault.{Fault}
+use Rattle.paper.specs.declared.Shocks.{Shocks}
 use Rattle.paper.specs.declared.Refusal.the-variants.{CodeNotListed}
 use Rattle.paper.specs.Refusals.{Checked, refused}
-use Rattle.paper.specs.Curve.{Shocks as PaperShocks}
 use Rattle.paper.specs.Published.{Sizes}
-use Rattle.curve.specs.declared.Shocks.{Shocks}
 use Rattle.fields.specs.Answers.{none, answerOf}
 use Rattle.published.specs.declared.ListedShocks.{ListedShocks}
 use Rattle.published.specs.declared.ListedShocks.the-variants.{Are, Bad}
 
 -- three digits each; what is not listed has 0
-unfoldable pub inDigits : PaperShocks → ℕ
+unfoldable pub inDigits : Shocks → ℕ
 inDigits s = s .parallel * 1000000 + s .short * 1000 + s .long
 
-abbrev pub held : PaperShocks → Shocks
-held s = record { parallel = s .parallel; short = s .short; long = s .long }
-
-abbrev pub listedOf : Checked PaperShocks → ListedShocks
-listedOf = answerOf (λ s. Are (held s)) Bad
+abbrev pub listedOf : Checked Shocks → ListedShocks
+listedOf = answerOf Are Bad
 
 abbrev pub faultIn : ListedShocks → Fault
 faultIn (Are s) = none
@@ -28,4 +24,4 @@ faultIn (Bad f) = f
 -- what a line that was looked up is answered with
 pub record Says (line : ℕ) (answer : ListedShocks) : Type 0 where
   pub nothing : line ≡ 0 → answer ≡ listedOf (refused CodeNotListed 0)
-  pub something : (s : PaperShocks) → Sizes s → line ≡ inDigits s → answer ≡ Are (held s)
+  pub something : (s : Shocks) → Sizes s → line ≡ inDigits s → answer ≡ Are s

@@ -8,11 +8,11 @@ ghost use Rattle.paper.specs.Refusals.{refused};
 ghost use Rattle.paper.specs.Published.{edition1, edition2, shocksFor};
 ghost use Rattle.paper.specs.Fields.{listedAt};
 ghost use Rattle.published.specs.Lines.{inDigits, listedOf, faultIn, Says};
-use curve::Shocks;
 use fields::bytes::byte_at;
 use fields::bytes::three_at;
 use paper::Fault;
 use paper::Refusal;
+use paper::Shocks;
 
 // The three letters, a byte each.
 const ARS: u32 = 0x415253;

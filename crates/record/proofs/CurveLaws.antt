@@ -12,7 +12,7 @@ use Rattle.paper.specs.Refusals.{Checked, accepted, _>>_, unless, refuseIf}
 use Rattle.paper.specs.Records.{Record, curve}
 use Rattle.paper.specs.TurnedDown.{badShocked}
 use Rattle.paper.specs.Decode.{drawn}
-use Rattle.curve.specs.declared.Shocks.{Shocks}
+use Rattle.paper.specs.declared.Shocks.{Shocks}
 use Rattle.curve.specs.Shocked.{curveOf}
 use Rattle.fields.specs.Answers.{fault, ratesFrom}
 use Rattle.record.specs.declared.curves.DecodedCurve.{DecodedCurve}

@@ -8,7 +8,7 @@ use Rattle.paper.specs.declared.Fault.{Fault}
 use Rattle.paper.specs.Refusals.{Checked, accepted, refused}
 use Rattle.paper.specs.Records.{Record, Flows, flows, option, curve, single, coupons, floating, deposit, loan, termDeposit, floatingSpread, currencies}
 use Rattle.paper.specs.Fields.{currencyAt}
-use Rattle.curve.specs.declared.Shocks.{Shocks}
+use Rattle.paper.specs.declared.Shocks.{Shocks}
 use Rattle.curve.specs.Shocked.{curveOf}
 use Rattle.fields.specs.Answers.{none, answerOf, amountsFrom, ratesFrom}
 use Rattle.record.specs.declared.single.Single.{Single}

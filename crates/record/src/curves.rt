@@ -9,7 +9,6 @@ ghost use Rattle.paper.specs.Sound.{Ranged, Listed};
 ghost use Rattle.curve.specs.Shocked.{curveOf, Sized};
 ghost use Rattle.record.specs.Answers.{Body, curveRead, drawnOf};
 use crate::record_fault;
-use curve::Shocks;
 use curve::first_out_of_range;
 use fields::Field;
 use fields::rates::Rates;
@@ -18,6 +17,7 @@ use fields::shock_at;
 use paper::BUCKETS;
 use paper::Fault;
 use paper::Refusal;
+use paper::Shocks;
 use published::ListedShocks;
 use published::listed_at;
 

@@ -13,7 +13,7 @@ use Rattle.paper.specs.Fields.{rateAt, shockAt, each}
 use Rattle.paper.specs.Decode.{decodeCurve}
 use Rattle.paper.proofs.Checks.{Anything, known-of, field-known}
 use Rattle.paper.proofs.Ranges.{shock-range}
-use Rattle.curve.specs.declared.Shocks.{Shocks}
+use Rattle.paper.specs.declared.Shocks.{Shocks}
 use Rattle.curve.specs.Shocked.{Sized}
 use Rattle.fields.proofs.Reading.{value, bad, rates-bad}
 use Rattle.fields.proofs.RateLaws.{Rated, rates-all}

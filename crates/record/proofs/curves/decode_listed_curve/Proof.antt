@@ -13,7 +13,7 @@ use Rattle.paper.specs.Fields.{listedAt, rateAt, each}
 use Rattle.paper.specs.Decode.{decodeListedCurve}
 use Rattle.paper.proofs.Checks.{known-of}
 use Rattle.paper.proofs.Published.{listed-known}
-use Rattle.curve.specs.declared.Shocks.{Shocks}
+use Rattle.paper.specs.declared.Shocks.{Shocks}
 use Rattle.curve.specs.Shocked.{Sized}
 use Rattle.fields.proofs.Reading.{rates-bad}
 use Rattle.fields.proofs.RateLaws.{Rated, rates-all}
