@@ -14,7 +14,7 @@ use Rattle.paper.specs.Ladder.{midpoints}
 use Rattle.paper.specs.Refusals.{Checked, accepted, refused, _>>=_, _>>_, unless}
 use Rattle.paper.specs.Series.{denominator, seriesTerm, numerator, billionOverE}
 use Rattle.paper.specs.Curve.{shortShare, rateChanges, shockedRate}
-use Rattle.paper.specs.Records.{Record, flows, single, coupons, floating, deposit, loan, termDeposit, floatingSpread, option, curve, currencies}
+use Rattle.paper.specs.Records.{Record, flows, single, coupons, floating, deposit, loan, termDeposit, floatingSpread, option, currencies}
 use Rattle.paper.specs.Behaviour.{weighedCore, scheduledAt}
 use Rattle.paper.specs.TurnedDown.{badCurrency, badSide, badMonths, badDays, badPeriod, badCount, badAmount, badOption, badShare, badCategory, coreAboveCap, coreTooLong, interestAlone, secondCurve, badRate, badShock, badShocked, scheduleOver, unknownEdition, codeNotListed}
 use Rattle.paper.specs.Letters.{D, J, N, P, S, U, Y, Z}
@@ -86,7 +86,6 @@ bodies =
     ∷ (freshly 8 (curveBody 8 (below4 50000) 1 0 0) means refused OutOfRange 2)
     ∷ (freshly 8 (ratesBody 8 (rates 3 (in4 0) ++ below4 50000 ++ in4 300000 ++ rates 14 (in4 0)) 1 0 0) means refused OutOfRange 14)
     ∷ (freshly 8 (ratesBody 8 (rates 4 (in4 0) ++ in4 300000 ++ below4 50000 ++ rates 13 (in4 0)) 1 0 0) means refused OutOfRange 18)
-    ∷ (freshly 8 (curveBody 8 (in4 300000) 0 0 0) means accepted (curve 8 (record { rates = replicate 19 (pos 300000); shocks = record { parallel = 0; short = 0; long = 0 } })))
     ∷ (freshly 9 (floatingSpreadBody 2 1 588 30 300 7 12 1 5) means accepted (flows 2 (floatingSpread 1 (record { months = 588; days = 30 }) 300 7 12 1 5)))
     ∷ (freshly 9 (floatingSpreadBody 2 1 0 0 300 7 1 600 0) means accepted (flows 2 (floatingSpread 1 (record { months = 0; days = 0 }) 300 7 1 600 0)))
     ∷ (freshly 9 (floatingSpreadBody 2 3 601 31 300 1000000001 2 0 1000000001) means refused BadSide 2)
