@@ -60,7 +60,7 @@ fn value_of(
     rates: &[i64],
     scenario: usize,
     midpoints: &[u32],
-    table: &[[u64; 10]; 11],
+    table: &[[u64; 10]; 6],
 ) -> i64
     requires { ⌜ (length (now cells) ≡ sectionSize) × (length (now rates) ≡ sectionSize) × (scenario < scenarios) ⌝ }
     requires { ⌜ BoundedRow (totalsBy (now cells) [] (now rates)) 1 scenario ⌝ }
@@ -90,7 +90,7 @@ fn fill_changes(
     rates: &[i64],
     add_ons: &[i64],
     midpoints: &[u32],
-    table: &[[u64; 10]; 11],
+    table: &[[u64; 10]; 6],
     changes: &mut [i64],
 )
     requires { ⌜ CurrencyLengths (now cells) (now rates) (now «add_ons») (now changes) ⌝ }
@@ -125,7 +125,7 @@ pub fn fill_currency(
     add_ons: &[i64],
     c: usize,
     midpoints: &[u32],
-    table: &[[u64; 10]; 11],
+    table: &[[u64; 10]; 6],
     changes: &mut [i64],
     tolerances: &mut [i64],
 )

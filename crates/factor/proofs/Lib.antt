@@ -1,6 +1,6 @@
--- the table's rule, entry by entry
+-- the table's rule, entry by entry, and what is worked out
 pub mod Entries
--- the product's loop
+-- the product's two loops
 pub mod Digits
 -- the start by the sign
 pub mod Signs

@@ -41,10 +41,21 @@ unfolding nearest
 nearest-zero zero = refl
 nearest-zero (suc b) = div-eq-of-lt {n = 0 + suc b} {m = 2 * suc b} (omega arith)
 
+pub nearest-whole : (n : ℕ) {b : ℕ} → 0 < b → nearest (n * b) b ≡ n
+nearest-whole n {b} h = nearest-of h (record { low = omega arith; high = omega arith })
+
 -- by an even number, as code has it: at h = 500000000 it is (n + 500000000) / 1000000000
 pub nearest-even : (n h : ℕ) → nearest n (2 * h) ≡ (n + h) / (2 * h)
 unfolding nearest
 nearest-even n h = rw (← mul-add 2 n h) (mul-div-mul-left (n + h) (2 * h) (lit< tt))
+
+-- in tenths
+pub nearest-tenths : (a b : ℕ) → nearest (10 * a) (10 * b) ≡ nearest a b
+unfolding nearest
+nearest-tenths a b =
+    let top : 2 * (10 * a) + 10 * b ≡ 10 * (2 * a + b) = omega arith in
+    let bottom : 2 * (10 * b) ≡ 10 * (2 * b) = omega arith in
+    rw (top, bottom) (mul-div-mul-left (2 * a + b) (2 * b) (lit< tt))
 
 pub nearest-le : {a b n : ℕ} → 0 < b → a ≤ n * b → nearest a b ≤ n
 nearest-le {a} {b} {n} p h =

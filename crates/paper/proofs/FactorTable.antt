@@ -1,14 +1,15 @@
--- The table of tables written out, eleven rows of ten: by one computed test each number is the entry that the paper defines. Factors and changes
--- by the written table make a whole report cheap to compute.
-use Prim.Native.Nat.{ℕ, zero, suc, _+_, _*_, _-_, _/_, _%_, _≤_, _<_}
+-- The table's entries: written out for the six largest weights, by a rule for the five smallest. By one computed test each is the entry that the
+-- paper defines. Factors and changes by the written table make a whole report cheap to compute.
+use Prim.Native.Nat.{ℕ, zero, suc, _+_, _*_, _-_, _/_, _%_, _^_, _≤_, _<_}
 use mathlib.Core.Bool.{Bool, true}
 use mathlib.Core.List.{List, [], _∷_}
 use mathlib.Core.Path.{_≡_, refl, ap, fun-ext, _∙_}
 use native.Mathlib.Omega.{arith}
-use borrow.Author.Tests.{eqb-true}
+use borrow.Author.Tests.{eqb-true, le-ltb}
+use lib.Dec.{lit<, lit≤}
 use lib.IntN.{ℤ, pos, negsuc, _+ℤ_, _-ℤ_, _*ℤ_}
 use lib.ListN.{getD}
-use Rattle.laws.specs.Tests.{_is_, all}
+use Rattle.laws.specs.Tests.{if_then_else_, _is_, _below_, all}
 use Rattle.laws.specs.Sums.{sum, sumℤ}
 use Rattle.laws.specs.Nearest.{nearest, nearestℤ}
 use Rattle.laws.specs.Series.{factorial}
@@ -22,7 +23,7 @@ use Rattle.paper.specs.Change.{exponent, value, change, tolerance}
 use Rattle.paper.specs.Verdict.{totalTolerance, changesOf, changeAt, reportFrom, reportOf}
 use Rattle.paper.proofs.ReportList.{report-by-list}
 
--- a row for each weight, from 10^0 down to 10^-10, and in it the digits 0 to 9
+-- a row for each weight, from 10^0 down to 10^-5, and in it the digits 0 to 9
 unfoldable pub table : List ℕ
 table =
     1000000000 ∷ 367879441 ∷ 135335283 ∷ 49787068 ∷ 18315639 ∷ 6737947 ∷ 2478752 ∷ 911882 ∷ 335463 ∷ 123410
@@ -31,21 +32,20 @@ table =
     ∷ 1000000000 ∷ 999000500 ∷ 998001999 ∷ 997004496 ∷ 996007989 ∷ 995012479 ∷ 994017964 ∷ 993024443 ∷ 992031915 ∷ 991040379
     ∷ 1000000000 ∷ 999900005 ∷ 999800020 ∷ 999700045 ∷ 999600080 ∷ 999500125 ∷ 999400180 ∷ 999300245 ∷ 999200320 ∷ 999100405
     ∷ 1000000000 ∷ 999990000 ∷ 999980000 ∷ 999970000 ∷ 999960001 ∷ 999950001 ∷ 999940002 ∷ 999930002 ∷ 999920003 ∷ 999910004
-    ∷ 1000000000 ∷ 999999000 ∷ 999998000 ∷ 999997000 ∷ 999996000 ∷ 999995000 ∷ 999994000 ∷ 999993000 ∷ 999992000 ∷ 999991000
-    ∷ 1000000000 ∷ 999999900 ∷ 999999800 ∷ 999999700 ∷ 999999600 ∷ 999999500 ∷ 999999400 ∷ 999999300 ∷ 999999200 ∷ 999999100
-    ∷ 1000000000 ∷ 999999990 ∷ 999999980 ∷ 999999970 ∷ 999999960 ∷ 999999950 ∷ 999999940 ∷ 999999930 ∷ 999999920 ∷ 999999910
-    ∷ 1000000000 ∷ 999999999 ∷ 999999998 ∷ 999999997 ∷ 999999996 ∷ 999999995 ∷ 999999994 ∷ 999999993 ∷ 999999992 ∷ 999999991
-    ∷ 1000000000 ∷ 1000000000 ∷ 1000000000 ∷ 1000000000 ∷ 1000000000 ∷ 1000000000 ∷ 999999999 ∷ 999999999 ∷ 999999999 ∷ 999999999
     ∷ []
 
+-- what an entry of a smaller weight lacks of a billion: a tenth of what the digit stands for in units of 10^-10, to the nearest, halves down
+unfoldable pub lack : ℕ → ℕ → ℕ
+lack w d = (d * 10 ^ (10 - w) + 4) / 10
+
 unfoldable pub written : ℕ → ℕ → ℕ
-written w d = getD table (10 * w + d) 0
+written w d = if w below 6 then getD table (10 * w + d) 0 else billion - lack w d
 
 rightly : ℕ → Bool
 rightly j = entry (j / 10) (j % 10) is written (j / 10) (j % 10)
 
 each-right : all rightly 0 110 ≡ true
-unfolding rightly written table all entry nearest denominator numerator billionOverE sum seriesTerm factorial
+unfolding rightly written table lack all entry nearest denominator numerator billionOverE sum seriesTerm factorial
 each-right = refl
 
 pub entry-written : (w d : ℕ) → w < 11 → d < 10 → entry w d ≡ written w d
@@ -55,6 +55,23 @@ entry-written w d l m =
     let row : j / 10 ≡ w = omega arith in
     let place : j % 10 ≡ d = omega arith in
     rw (row, place) at (eqb-true (entry (j / 10) (j % 10)) (written (j / 10) (j % 10)) (all-at rightly 0 110 each-right j (omega arith) (omega arith)))
+
+-- the rule of the five smallest weights, at once and weight by weight
+pub entry-lacks : (w d : ℕ) → 6 ≤ w → w < 11 → d < 10 → entry w d ≡ billion - lack w d
+unfolding written
+entry-lacks w d f l m = entry-written w d l m ∙ rw (le-ltb w 6 f)
+
+pub entries-lack : (d : ℕ) → d < 10
+    → (entry 6 d ≡ billion - 1000 * d) × (entry 7 d ≡ billion - 100 * d) × (entry 8 d ≡ billion - 10 * d) × (entry 9 d ≡ billion - d)
+    × (entry 10 d ≡ billion - (d + 4) / 10)
+unfolding lack
+entries-lack d m = (
+  entry-lacks 6 d (lit≤ tt) (lit< tt) m ∙ omega arith,
+  entry-lacks 7 d (lit≤ tt) (lit< tt) m ∙ omega arith,
+  entry-lacks 8 d (lit≤ tt) (lit< tt) m ∙ omega arith,
+  entry-lacks 9 d (lit≤ tt) (lit< tt) m ∙ omega arith,
+  entry-lacks 10 d (lit≤ tt) (lit< tt) m ∙ omega arith,
+)
 
 -- ---- factors
 

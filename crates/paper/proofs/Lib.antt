@@ -38,5 +38,6 @@ pub mod Report
 pub mod EmptyCurrency
 -- demand 3 for every accepted book
 pub mod Demand3
--- the table of tables written out, by which a report is cheap to compute
+-- the digits in parts; the table's entries, written out and by rule, by which a report is cheap to compute
+pub mod FactorDigits
 pub mod FactorTable

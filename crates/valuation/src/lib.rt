@@ -22,7 +22,7 @@ pub fn fill_report(
     add_ons: &[i64],
     curved: u32,
     tier1: Thousands,
-    table: &[[u64; 10]; 11],
+    table: &[[u64; 10]; 6],
     report: &mut [i64],
 )
     requires { ⌜ ReportLengths (now ledger) (now rates) (now «add_ons») (now report) ⌝ }

@@ -23,7 +23,7 @@ use Rattle.paper.specs.Decode.{decodeSingle, decodeCurve, decode}
 use Rattle.paper.specs.Factor.{digit}
 use Rattle.paper.specs.Change.{exponent, netSize, toleranceOf, tolerance}
 use Rattle.paper.specs.Verdict.{scenarioSum, measure, worst, totalTolerance, verdict, verdictNumber, changesOf, changeAt, reportFrom, reportOf}
-use Rattle.paper.proofs.FactorTable.{table, written, afterWritten, factorWritten, valueBy, changeBy, report-written}
+use Rattle.paper.proofs.FactorTable.{table, lack, written, afterWritten, factorWritten, valueBy, changeBy, report-written}
 use Rattle.paper.specs.Book.{placed, admitted, recordAt, nextAt, walkFrom, walk, covered, outcome}
 
 -- a curve for currency 1, all rates 0, shocks 400, 0, 0; one asset, (241,0), 1,000,000
@@ -67,7 +67,7 @@ stated verdictIs =
     ++ (pos 632121 ∷ pos 1 ∷ pos 2 ∷ pos verdictIs ∷ [])
 
 changes-are : changesOf currencies (changeBy factorWritten (totals kept)) ≡ changes
-unfolding changes kept sum sumℤ total totalℤ first nearest nearestℤ tabulateFrom factorial notAfter upperEnds bucketOf midpoints denominator seriesTerm numerator billionOverE shortShare rateChanges shockedRate currencyOf sided due flowOf flow adds gives isCurve rateOf ofCurrency ofCurrencyℤ digit table written afterWritten factorWritten valueBy changeBy exponent changesOf
+unfolding changes kept sum sumℤ total totalℤ first nearest nearestℤ tabulateFrom factorial notAfter upperEnds bucketOf midpoints denominator seriesTerm numerator billionOverE shortShare rateChanges shockedRate currencyOf sided due flowOf flow adds gives isCurve rateOf ofCurrency ofCurrencyℤ digit table lack written afterWritten factorWritten valueBy changeBy exponent changesOf
 changes-are = refl
 
 tolerance-is : totalTolerance currencies (tolerance (totals kept)) ≡ 2

@@ -25,7 +25,7 @@ use Rattle.paper.specs.Change.{exponent, netSize, toleranceOf, tolerance}
 use Rattle.paper.specs.Verdict.{scenarioSum, measure, worst, totalTolerance, verdict, verdictNumber, changesOf, changeAt, reportFrom, reportOf}
 use Rattle.paper.specs.Book.{placed, admitted, recordAt, nextAt, walkFrom, walk, covered, outcome}
 use Rattle.paper.proofs.Bytes.{in4, rates, singleBody, curveBody}
-use Rattle.paper.proofs.FactorTable.{table, written, afterWritten, factorWritten, valueBy, changeBy, report-written}
+use Rattle.paper.proofs.FactorTable.{table, lack, written, afterWritten, factorWritten, valueBy, changeBy, report-written}
 
 -- rates 0 and parallel shocks of 400 in both; an asset in 1 and a liability in 2, both of 1,000,000 at (241,0)
 unfoldable pub book : List ℕ
@@ -67,7 +67,7 @@ unfolding outcome roomTooSmall badCapital unless _>>=_ _>>_
 taken = rw (short, walked, covers)
 
 changes-are : changesOf currencies (changeBy factorWritten (totals kept)) ≡ changes
-unfolding changes kept sum sumℤ total totalℤ first nearest nearestℤ tabulateFrom factorial notAfter upperEnds bucketOf midpoints denominator seriesTerm numerator billionOverE shortShare rateChanges shockedRate currencyOf sided due flowOf flow adds gives isCurve rateOf ofCurrency ofCurrencyℤ digit table written afterWritten factorWritten valueBy changeBy exponent changesOf
+unfolding changes kept sum sumℤ total totalℤ first nearest nearestℤ tabulateFrom factorial notAfter upperEnds bucketOf midpoints denominator seriesTerm numerator billionOverE shortShare rateChanges shockedRate currencyOf sided due flowOf flow adds gives isCurve rateOf ofCurrency ofCurrencyℤ digit table lack written afterWritten factorWritten valueBy changeBy exponent changesOf
 changes-are = refl
 
 tolerance-is : totalTolerance currencies (tolerance (totals kept)) ≡ 4
