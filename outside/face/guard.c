@@ -10,7 +10,9 @@
 #include <string.h>
 #include <unistd.h>
 
-enum { REPORT_CELLS = 58, LEDGER_CELLS = 1064, CAPITAL_BYTES = 8, MOST_BYTES = 1 << 20, MOST_SECONDS = 60 };
+enum { CURRENCIES = 32, CHANGES = 6 * CURRENCIES, REPORT_CELLS = CHANGES + 10, LEDGER_CELLS = 133 * CURRENCIES };
+enum { STORED_CHANGES = 48, STORED_CELLS = STORED_CHANGES + 10 };
+enum { CAPITAL_BYTES = 8, MOST_BYTES = 1 << 20, MOST_SECONDS = 60 };
 static const int64_t PATTERN = 0x5aa5c33c96690ff0;
 
 struct rooms {
@@ -74,7 +76,7 @@ static struct outcome call(const uint8_t *bytes, size_t book_bytes, uint64_t tie
 /* "From flows to verdict": what holds of every report. */
 static void judge_report(const struct outcome *outcome)
 {
-    const int64_t *sums = outcome->report + 48;
+    const int64_t *sums = outcome->report + CHANGES;
     int64_t measure = sums[6], worst = sums[7], tolerance = sums[8], verdict = sums[9];
     demand(outcome->place == 0, "a report has place 0");
     demand(measure >= 0 && tolerance >= 0, "measure and total tolerance are at least 0");
@@ -87,12 +89,38 @@ static void judge_report(const struct outcome *outcome)
 static void judge_refusal(const struct outcome *outcome, size_t book_bytes)
 {
     int before_records = outcome->number >= 16 && outcome->number <= 18;
-    uint64_t last_place = before_records ? 0 : outcome->number == 15 ? 8 : book_bytes - 1;
+    uint64_t last_place = before_records ? 0 : outcome->number == 15 ? CURRENCIES : book_bytes - 1;
     demand(outcome->number <= 20 && outcome->number != 18, "rooms that are long enough get 1 to 17, 19 or 20");
     demand(outcome->place <= last_place, "the place is in the book, or a currency");
     demand(all_are(outcome->report, REPORT_CELLS, PATTERN), "a refusal leaves the report untouched");
     demand(all_are(outcome->ledger, LEDGER_CELLS, before_records ? PATTERN : 0),
            "16 and 17 leave the ledger untouched, the others make it zero");
+}
+
+static void judge_widened(const int64_t *report, const int64_t *stored)
+{
+    demand(memcmp(report, stored, 8 * STORED_CHANGES) == 0, "a widened report begins with the stored changes");
+    demand(all_are(report + STORED_CHANGES, CHANGES - STORED_CHANGES, 0), "the changes added to them are zeros");
+    demand(memcmp(report + CHANGES, stored + STORED_CHANGES, 8 * 10) == 0, "the last ten stay the last ten");
+}
+
+/* Any 58 numbers can be widened; in a room that is a cell too short nothing moves. */
+static void widen(const int64_t *numbers)
+{
+    int64_t *stored = lent(book_room, 8 * STORED_CELLS, 0), *report = lent(report_room, 8 * REPORT_CELLS, 0);
+    uint64_t *place = lent(place_room, 8, 0);
+    fill(report, REPORT_CELLS, PATTERN);
+    memcpy(stored, numbers, 8 * STORED_CELLS);
+    read_only(book_room, 1);
+    *place = (uint64_t)PATTERN;
+    uint32_t refused_with = vorlegan_widen(stored, STORED_CELLS, report + 1, REPORT_CELLS - 1, place, 1);
+    demand(refused_with == 18 && *place == 0, "a room of 201 cells gets 18 at place 0");
+    demand(all_are(report, REPORT_CELLS, PATTERN), "a room of 201 cells stays untouched");
+    *place = (uint64_t)PATTERN;
+    demand(vorlegan_widen(stored, STORED_CELLS, report, REPORT_CELLS, place, 1) == 0 && *place == 0,
+           "58 stored cells in a room of 202 get 0 at place 0");
+    judge_widened(report, stored);
+    read_only(book_room, 0);
 }
 
 #ifdef __AFL_COMPILER
@@ -132,7 +160,8 @@ static void show_kinds(const uint8_t *book, size_t bytes)
 }
 #endif
 
-/* The same input twice, at the end of its pages and at their front: the answers are one. */
+/* The same input twice, at the end of its pages and at their front: the answers are one. Then the first 58 cells of the
+ * report's room, whatever they hold, as a stored report. */
 static void take(const uint8_t *input, size_t bytes)
 {
     uint64_t tier1 = 0;
@@ -146,6 +175,7 @@ static void take(const uint8_t *input, size_t bytes)
         judge_report(&outcome);
     else
         judge_refusal(&outcome, bytes - head);
+    widen(outcome.report);
     show_number(outcome.number);
     int told_in_the_book = (outcome.number >= 1 && outcome.number <= 14) || outcome.number >= 19;
     show_kinds(input + head, told_in_the_book ? outcome.place : bytes - head);

@@ -6,7 +6,9 @@ pub mod More
 pub mod Bounds
 -- 14 by a currency's own parts
 pub mod Limit
--- the masks
+-- the masks, and their edges
 pub mod Sets
+pub mod Last
+pub mod MaskCases
 -- a place reads the same by the records kept, by the arrays and by a currency's parts
 pub mod Agree

@@ -5,6 +5,7 @@ use mathlib.Core.Path.{_≡_}
 use lib.Bits.{bitOr}
 use Rattle.laws.specs.Tests.{if_then_else_, first}
 use Rattle.laws.specs.Digits.{has}
+use Rattle.laws.specs.Sums.{greatest}
 use Rattle.paper.specs.Records.{Record, currencies, currencyOf, isCurve}
 use Rattle.arrays.specs.declared.masks.Masks.{Masks}
 
@@ -28,6 +29,10 @@ markedBy curve c m =
 
 abbrev pub marked : Record → Masks → Masks
 marked r m = markedBy (isCurve r) (currencyOf r) m
+
+-- the last currency of a set; 0 where it has none
+unfoldable pub lastOf : ℕ → ℕ
+lastOf mask = greatest (λ c. if curvedBy mask c then c else 0) currencies
 
 -- the lowest currency of the first set that is none of the second, by the digits
 unfoldable pub lowestMissing : Masks → ℕ

@@ -3,7 +3,7 @@
 ghost use mathlib.Core.Path.{_≡_};
 ghost use Prim.Native.Nat.{_≤_};
 ghost use Rattle.paper.specs.Records.{currencies};
-ghost use Rattle.arrays.specs.Masks.{curvedBy, withCurrency, lowestMissing, markedBy};
+ghost use Rattle.arrays.specs.Masks.{curvedBy, withCurrency, lowestMissing, lastOf, markedBy};
 
 pub struct Masks {
     pub used: u32,
@@ -48,4 +48,11 @@ pub fn lowest_missing(masks: Masks) -> u32
     ensures { λ r. ⌜ r ≡ lowestMissing masks ⌝ }
 {
     u32::trailing_zeros(masks.used & !masks.curved) + 1
+}
+
+// The last currency of a set; 0 where it has none.
+pub fn last_of(mask: u32) -> u32
+    ensures { λ r. ⌜ r ≡ lastOf mask ⌝ }
+{
+    32 - u32::leading_zeros(mask)
 }

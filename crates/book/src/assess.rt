@@ -7,7 +7,7 @@ ghost use Rattle.paper.specs.Ledger.{cells, figures};
 ghost use Rattle.paper.specs.TurnedDown.{badCapital, roomTooSmall};
 ghost use Rattle.load.specs.Load.{ofRecords};
 ghost use Rattle.book.specs.Assessed.{Answers, Assesses, Truthful, turnedAway};
-use crate::rooms::clear;
+use arrays::cells::clear;
 use factor::table;
 use load::Loaded;
 use load::load;
@@ -35,7 +35,7 @@ fn assess_records(book: &[u8], tier1: Thousands, report: &mut [i64], ledger: &mu
     ensures { λ r. ⌜ Answers (ofRecords (now (book .entry))) (tier1 .0) (now (report .entry)) (now (ledger .entry)) r (now (report .exit)) (now (ledger .exit)) ⌝ }
 {
     clear(ledger);
-    let mut rates = [0i64; CELLS];
+    let mut rates = [0i32; CELLS];
     let mut addons = [0i64; CHANGES];
     let mut sizes = [0u64; SCENARIOS * CURRENCIES];
     let mut options = [0u64; CHANGES];

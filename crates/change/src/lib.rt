@@ -57,7 +57,7 @@ fn tolerance_of(size: Thousands) -> Thousands
 // The sum of flow times factor, in billionths.
 fn value_of(
     cells: &[i64],
-    rates: &[i64],
+    rates: &[i32],
     scenario: usize,
     midpoints: &[u32],
     table: &[[u64; 10]; 6],
@@ -70,7 +70,7 @@ fn value_of(
     let start = BUCKETS * scenario;
     let mut sum: i64 = 0;
     for k in 0..BUCKETS {
-        let rate = Millionths(rates[start + k]);
+        let rate = Millionths(rates[start + k] as i64);
         let exponent = Exponent::of(rate, TenThousandthYears::of(midpoints[k]));
         sum += cells[start + k] * (factor::factor(table, exponent) as i64);
     }
@@ -87,7 +87,7 @@ fn in_thousands(billionths: i64) -> SignedThousands
 // The six changes.
 fn fill_changes(
     cells: &[i64],
-    rates: &[i64],
+    rates: &[i32],
     add_ons: &[i64],
     midpoints: &[u32],
     table: &[[u64; 10]; 6],
@@ -118,10 +118,10 @@ fn fill_tolerances(cells: &[i64], tolerances: &mut [i64])
     }
 }
 
-// The figures of currency c + 1, each in its currency's place among the 48.
+// The figures of currency c + 1, each in its currency's place among the 192.
 pub fn fill_currency(
     ledger: &[i64],
-    rates: &[i64],
+    rates: &[i32],
     add_ons: &[i64],
     c: usize,
     midpoints: &[u32],

@@ -99,14 +99,15 @@ fn shocked(
     requires { ⌜ Sized shocks ⌝ }
     requires { ⌜ (now shares ≡ shortShares) × (k < buckets) ⌝ }
     ensures { λ r. ⌜ r .0 ≡ shockedRate (curveOf (now (rates .entry)) shocks) scenario k ⌝ }
+    ensures { λ r. ⌜ natAbs (r .0) ≤ 550_000 ⌝ }
 {
     let base = Millionths(rates[k]);
     let moved = change(shocks, shares[k], scenario);
     Millionths(base.0 + moved.0)
 }
 
-// The nineteen rates of one scenario.
-pub fn fill_scenario(rates: &[i64], shocks: Shocks, scenario: usize, part: &mut [i64])
+// The nineteen rates of one scenario, in 32 bits each, which hold every shocked rate: half of what 64 would have to be cleared.
+pub fn fill_scenario(rates: &[i64], shocks: Shocks, scenario: usize, part: &mut [i32])
     requires { ⌜ Listed Ranged buckets (now rates) ⌝ }
     requires { ⌜ Sized shocks ⌝ }
     requires { ⌜ length (now part) ≡ buckets ⌝ }
@@ -116,14 +117,14 @@ pub fn fill_scenario(rates: &[i64], shocks: Shocks, scenario: usize, part: &mut 
     let mut k = 0;
     while k < BUCKETS {
         let rate = shocked(rates, shocks, &shares, scenario, k);
-        let cell = rate.0;
+        let cell = rate.0 as i32;
         part[k] = cell;
         k += 1;
     }
 }
 
 // The seven scenarios, the base first: scenario i from cell 19 i on.
-pub fn fill_section(rates: &[i64], shocks: Shocks, section: &mut [i64])
+pub fn fill_section(rates: &[i64], shocks: Shocks, section: &mut [i32])
     requires { ⌜ Listed Ranged buckets (now rates) ⌝ }
     requires { ⌜ Sized shocks ⌝ }
     requires { ⌜ length (now section) ≡ sectionSize ⌝ }

@@ -1,4 +1,4 @@
--- What the face for other languages promises: the same as `assess`, with the answer as a number and a place.
+-- What the face for other languages promises: the same as `assess` and `widen`, with the answer as a number and a place.
 use Prim.Native.Nat.{ℕ}
 use mathlib.Core.List.{List}
 use mathlib.Core.Path.{_≡_}
@@ -8,8 +8,11 @@ use denote.Ref.{now}
 use Rattle.paper.specs.Refusals.{Checked}
 use Rattle.paper.specs.Records.{Record, currencies}
 use Rattle.paper.specs.Book.{outcome, reportAfter, ledgerAfter}
+use Rattle.paper.specs.Stored.{reportWidened}
 use Rattle.arrays.specs.Lent.{Lent}
 use Rattle.book.specs.Assessed.{Answer, reported, turnedDown, answerOf}
+use Rattle.book.specs.Stored as Stored
+use Rattle.book.specs.Stored.{wideningOf}
 
 -- 0 stands for a report
 unfoldable pub numberIn : Answer → ℕ
@@ -35,3 +38,13 @@ abbrev pub Faces : List ℕ → ℕ → Lent ℤ → Lent ℤ → Lent ℕ → �
 Faces book T report ledger place number =
     Faced (outcome currencies book T (length (now (report .entry))) (length (now (ledger .entry)))) T (now (report .entry)) (now (ledger .entry)) (now (place .entry))
     number (now (report .exit)) (now (ledger .exit)) (now (place .exit))
+
+-- ---- and the same of `widen`
+
+pub record WidenedFace (stored report : List ℤ) (place : List ℕ) (number : ℕ) (report' : List ℤ) (place' : List ℕ) : Type 0 where
+  pub number-is : number ≡ numberIn (Stored.answerOf (wideningOf stored report))
+  pub place-is : place' ≡ withPlace (placeIn (Stored.answerOf (wideningOf stored report))) place
+  pub report-is : report' ≡ reportWidened currencies (wideningOf stored report) report
+
+abbrev pub FacesWidening : List ℤ → Lent ℤ → Lent ℕ → ℕ → Type 0
+FacesWidening stored report place number = WidenedFace stored (now (report .entry)) (now (place .entry)) number (now (report .exit)) (now (place .exit))

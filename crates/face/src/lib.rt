@@ -1,20 +1,14 @@
-// The face of `assess` for callers in other languages: numbers and slices only. It is a crate of its own, because the archive proves its crate once more.
-ghost use mathlib.Core.Path.{_≡_};
+// The face of `assess` for callers in other languages, and in stored.rt that of `widen`: numbers and slices only. It is a crate of its own, because the archive proves its crate once more.
 ghost use Rattle.book.specs.Assessed.{Truthful};
-ghost use Rattle.face.specs.Face.{Faces, withPlace};
+ghost use Rattle.face.specs.Face.{Faces};
 use book::assess::Assessed;
 use book::assess::assess;
 use book::refusal::refusal_number;
+use place::put_place;
 use scales::Thousands;
 
-// A caller that lends no cell for the place is not told it.
-fn put_place(place: &mut [u64], told: u64)
-    ensures { λ _. ⌜ now (place .exit) ≡ withPlace told (now (place .entry)) ⌝ }
-{
-    if place.len() > 0 {
-        place[0] = told;
-    }
-}
+mod place;
+mod stored;
 
 // 0 and place 0 where the report was written, else the refusal's number and its place.
 #[no_mangle]

@@ -4,10 +4,11 @@ use input::read_input;
 use libc::STDERR_FILENO;
 use libc::STDOUT_FILENO;
 use printing::print_answer;
+use text::LONGEST_TEXT;
 
 // Where the output cannot be written there is nobody to tell: the program ends.
 fn print(input: &[u8]) {
-    let mut out = [0u8; 2048];
+    let mut out = [0u8; LONGEST_TEXT];
     let count = print_answer(input, &mut out);
     io::write_all(STDOUT_FILENO, &out[0..count]);
 }

@@ -46,7 +46,7 @@ pub fn take_body(
     curved: bool,
     body: &[u8],
     section: &mut [i64],
-    rates: &mut [i64],
+    rates: &mut [i32],
     addons: &mut [i64],
     sizes: &mut [u64],
     options: &mut [u64],

@@ -1,7 +1,7 @@
 -- Lists given by a rule of the index: their length, their elements, when two are one, and a store into one. Tables of numbers, and their greatest.
 use Prim.Native.Nat.{ℕ, zero, suc, zero-le, _+_, _≤_, _<_}
 use mathlib.Core.Bool.{true}
-use mathlib.Core.List.{List, _∷_}
+use mathlib.Core.List.{List, _∷_, _++_}
 use mathlib.Core.Logic.{_≢_, ⊎-elim}
 use mathlib.Core.Path.{_≡_, refl, sym, ap, ap₂, _∙_}
 use native.Mathlib.Decide.{ℕ-discrete}
@@ -48,6 +48,15 @@ module _ {A : Type 0} where
   unfolding tabulateFrom
   tabulateFrom-const v a zero = refl
   tabulateFrom-const v a (suc n) = ap (λ (l : List A). v ∷ l) (tabulateFrom-const v (suc a) n)
+
+  -- in two parts
+  pub tabulateFrom-parts : (f : ℕ → A) (a n d : ℕ) → tabulateFrom f a (n + d) ≡ tabulateFrom f a n ++ tabulateFrom f (a + n) d
+  unfolding tabulateFrom
+  tabulateFrom-parts f a zero d = ap₂ (tabulateFrom f) (sym (add-zero a)) (zero-add d)
+  tabulateFrom-parts f a (suc n) d =
+      let more : suc n + d ≡ suc (n + d) = omega arith in
+      let place : suc a + n ≡ a + suc n = omega arith in
+      rw more (ap (λ (l : List A). f a ∷ l) (tabulateFrom-parts f (suc a) n d ∙ ap (λ (b : ℕ). tabulateFrom f (suc a) n ++ tabulateFrom f b d) place))
 
   -- ---- from 0 on
 

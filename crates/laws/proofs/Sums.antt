@@ -103,6 +103,14 @@ abs-sum f (suc n) = omega (arith, abs-sum f n, abs-add (sumℤ f n) (f n))
 pub sum-none : (f : ℕ → ℕ) (n : ℕ) → ((k : ℕ) → k < n → f k ≡ 0) → sum f n ≡ 0
 sum-none f n h = sum-ext f (λ k. 0) n h ∙ sum-nil n
 
+-- past n there is nothing more
+pub sum-rest : (f : ℕ → ℕ) (n d : ℕ) → ((k : ℕ) → n ≤ k → k < n + d → f k ≡ 0) → sum f (n + d) ≡ sum f n
+unfolding sum
+sum-rest f n zero h = ap (sum f) (add-zero n)
+sum-rest f n (suc d) h =
+    let last : n + suc d ≡ suc (n + d) = omega arith in
+    rw last (omega (arith, sum-rest f n d (λ k l m. h k l (omega arith)), h (n + d) (omega arith) (omega arith)))
+
 pub sum-only : (f : ℕ → ℕ) (n j : ℕ) → j < n → ((k : ℕ) → k < n → k ≢ j → f k ≡ 0) → sum f n ≡ f j
 unfolding sum
 sum-only f zero j h none = absurd (omega arith)

@@ -18,7 +18,7 @@ pub fn take_parts(
     curved: u32,
     body: &[u8],
     ledger: &mut [i64],
-    rates: &mut [i64],
+    rates: &mut [i32],
     addons: &mut [i64],
     sizes: &mut [u64],
     options: &mut [u64],

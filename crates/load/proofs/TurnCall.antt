@@ -24,7 +24,7 @@ use types.Run.{Opds}
 use types.Tokens.{lft-new, lft-end}
 use denote.Laws.{Is, shows}
 use denote.Plain.{uint-makes}
-use denote.Builtin.{u32, i64, u64, usize}
+use denote.Builtin.{u32, i32, i64, u64, usize}
 use denote.Ref.{RefT, NamedLft, now}
 use denote.RattleType.{RattleType}
 use denote.Slice.{sliceVal}
@@ -80,7 +80,7 @@ module _ (κs : Lfts 6) (qs : Shares 6) (a : Args walk.signature κs) where
   abbrev pub loans : List Loan
   loans =
       loan i64 1 (κs .1 .0) (qs .1 .0) (a .1 .0)
-      ∷ loan i64 2 (κs .1 .1 .0) (qs .1 .1 .0) (a .1 .1 .0)
+      ∷ loan i32 2 (κs .1 .1 .0) (qs .1 .1 .0) (a .1 .1 .0)
       ∷ loan i64 3 (κs .1 .1 .1 .0) (qs .1 .1 .1 .0) (a .1 .1 .1 .0)
       ∷ loan u64 4 (κs .1 .1 .1 .1 .0) (qs .1 .1 .1 .1 .0) (a .1 .1 .1 .1 .0)
       ∷ loan u64 5 (κs .1 .1 .1 .1 .1 .0) (qs .1 .1 .1 .1 .1 .0) (a .1 .1 .1 .1 .1 .0)

@@ -22,7 +22,7 @@ pub enum Loaded {
 pub fn load(
     book: &[u8],
     ledger: &mut [i64],
-    rates: &mut [i64],
+    rates: &mut [i32],
     addons: &mut [i64],
     sizes: &mut [u64],
     options: &mut [u64],

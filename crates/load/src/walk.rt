@@ -14,7 +14,7 @@ use turn::turn;
 pub fn walk(
     book: &[u8],
     ledger: &mut [i64],
-    rates: &mut [i64],
+    rates: &mut [i32],
     addons: &mut [i64],
     sizes: &mut [u64],
     options: &mut [u64],

@@ -68,7 +68,7 @@ module _ (top : ℕ) where
     kept ← walk book
     covered kept
 
--- ---- what the report and the ledger hold at exit; cells beyond 58 and 1,064 are untouched
+-- ---- what the report and the ledger hold at exit; cells beyond 202 and 4,256 are untouched
 
 -- 16, 17 and 18 touch nothing
 unfoldable pub touchesNothing : Refusal → Bool

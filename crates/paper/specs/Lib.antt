@@ -30,6 +30,8 @@ pub mod TurnedDown
 pub mod Book
 -- The report program
 pub mod Program
+-- Reports stored when currencies were 1 to 8 (02, request 7)
+pub mod Stored
 -- no part of 01: what is known of an accepted record, and how places were told before request 2 of 02
 pub mod Sound
 pub mod Earlier

@@ -10,7 +10,7 @@ use Rattle.paper.specs.Curve.{Curve}
 
 -- currency is a byte 1 to this. What depends on the number takes it as its first argument, `top` (currencies are 1 to top), and is used at this one
 abbrev pub currencies : ℕ
-currencies = 8
+currencies = 32
 
 -- the kinds: body bytes of 1, 2, .. in turn
 unfoldable pub kinds : List ℕ

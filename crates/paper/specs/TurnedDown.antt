@@ -115,7 +115,7 @@ longestBook = 65528
 unfoldable pub bookTooLong : ℕ → Bool
 bookTooLong bytes = longestBook below bytes
 
--- 18: report room below 58 or ledger room below 1,064
+-- 18: report room below 202 or ledger room below 4,256
 unfoldable pub roomTooSmall : ℕ → ℕ → ℕ → Bool
 roomTooSmall top reportRoom ledgerRoom = reportRoom below figures top || ledgerRoom below cells top
 

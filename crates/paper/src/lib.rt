@@ -7,8 +7,9 @@ ghost use Rattle.paper.specs.Records.{currencies};
 ghost use Rattle.paper.specs.Flow.{scenarios, shocked};
 ghost use Rattle.paper.specs.Ledger.{sectionSize, cells, figures};
 ghost use Rattle.paper.specs.TurnedDown.{longestBook};
+ghost use Rattle.paper.specs.Stored.{storedCurrencies};
 
-pub const CURRENCIES: usize = 8;
+pub const CURRENCIES: usize = 32;
 
 pub const BUCKETS: usize = 19;
 
@@ -28,12 +29,19 @@ pub const CHANGES: usize = SHOCKED * CURRENCIES;
 
 pub const FIGURES: usize = CHANGES + 10;
 
+// A report that was stored when there were fewer currencies (02, request 7).
+pub const STORED_CURRENCIES: usize = 8;
+
+pub const STORED_CHANGES: usize = SHOCKED * STORED_CURRENCIES;
+
+pub const STORED_FIGURES: usize = STORED_CHANGES + 10;
+
 // In bytes.
 pub const LONGEST_BOOK: usize = 65528;
 
 // The constants are the paper's numbers.
-fn sizes() -> [usize; 8]
-    ensures { λ r. ⌜ r ≡ currencies ∷ buckets ∷ scenarios ∷ shocked ∷ sectionSize ∷ cells currencies ∷ figures currencies ∷ longestBook ∷ [] ⌝ }
+fn sizes() -> [usize; 10]
+    ensures { λ r. ⌜ r ≡ currencies ∷ buckets ∷ scenarios ∷ shocked ∷ sectionSize ∷ cells currencies ∷ figures currencies ∷ storedCurrencies ∷ figures storedCurrencies ∷ longestBook ∷ [] ⌝ }
 {
     [
         CURRENCIES,
@@ -43,6 +51,8 @@ fn sizes() -> [usize; 8]
         SECTION,
         CELLS,
         FIGURES,
+        STORED_CURRENCIES,
+        STORED_FIGURES,
         LONGEST_BOOK,
     ]
 }

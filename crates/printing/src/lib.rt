@@ -5,6 +5,7 @@ ghost use Prim.Native.Nat.{_≤_};
 ghost use lib.ListN.{length, drop};
 ghost use Rattle.paper.specs.Records.{currencies};
 ghost use Rattle.paper.specs.Program.{capitalIn, printed};
+ghost use Rattle.text.specs.Longest.{longestText};
 ghost use Rattle.printing.specs.BookText.{bookText};
 use book::assess::Assessed;
 use book::assess::assess;
@@ -32,8 +33,8 @@ fn capital_in(input: &[u8]) -> Thousands
 
 // The rooms are just as long as a report and a ledger.
 fn print_book(book: &[u8], tier1: Thousands, out: &mut [u8]) -> usize
-    requires { ⌜ 2048 ≤ length (now out) ⌝ }
-    ensures { λ r. ⌜ (r ≡ length (bookText (now (book .entry)) (tier1 .0))) × (r ≤ 2048) ⌝ }
+    requires { ⌜ longestText ≤ length (now out) ⌝ }
+    ensures { λ r. ⌜ (r ≡ length (bookText (now (book .entry)) (tier1 .0))) × (r ≤ longestText) ⌝ }
     ensures { λ r. ⌜ now (out .exit) ≡ bookText (now (book .entry)) (tier1 .0) ++ drop r (now (out .entry)) ⌝ }
 {
     let mut report = [0i64; FIGURES];
@@ -50,8 +51,8 @@ fn print_book(book: &[u8], tier1: Thousands, out: &mut [u8]) -> usize
 
 // Answers how many bytes it prints; those after them are left as they are.
 pub fn print_answer(input: &[u8], out: &mut [u8]) -> usize
-    requires { ⌜ 2048 ≤ length (now out) ⌝ }
-    ensures { λ r. ⌜ (r ≡ length (printed currencies (now (input .entry)))) × (r ≤ 2048) ⌝ }
+    requires { ⌜ longestText ≤ length (now out) ⌝ }
+    ensures { λ r. ⌜ (r ≡ length (printed currencies (now (input .entry)))) × (r ≤ longestText) ⌝ }
     ensures { λ r. ⌜ now (out .exit) ≡ printed currencies (now (input .entry)) ++ drop r (now (out .entry)) ⌝ }
 {
     if input.len() > LONGEST_INPUT {

@@ -17,7 +17,7 @@ use record::curves::decode_curve;
 use record::curves::decode_listed_curve;
 
 // The rates begin at `from` in the body.
-fn enter_curve(decoded: DecodedCurve, body: &[u8], from: usize, rates: &mut [i64]) -> Taken
+fn enter_curve(decoded: DecodedCurve, body: &[u8], from: usize, rates: &mut [i32]) -> Taken
     requires { ⌜ from + 76 ≤ length (now body) ⌝ }
     requires { ⌜ length (now rates) ≡ sectionSize ⌝ }
     requires { ⌜ Enterable decoded (now body) from (now rates) ⌝ }
@@ -34,7 +34,7 @@ fn enter_curve(decoded: DecodedCurve, body: &[u8], from: usize, rates: &mut [i64
     }
 }
 
-pub fn take_curve(currency: u32, curved: bool, body: &[u8], rates: &mut [i64]) -> Taken
+pub fn take_curve(currency: u32, curved: bool, body: &[u8], rates: &mut [i32]) -> Taken
     requires { ⌜ Body 83 currency (now body) ⌝ }
     requires { ⌜ RateParts curved (now rates) ⌝ }
     ensures { λ r. ⌜ CurveTaken (decodeCurve currencies (λ _. curved) (now (body .entry))) (now (rates .entry)) r (now (rates .exit)) ⌝ }
@@ -42,7 +42,7 @@ pub fn take_curve(currency: u32, curved: bool, body: &[u8], rates: &mut [i64]) -
     enter_curve(decode_curve(currency, curved, body), body, 1, rates)
 }
 
-pub fn take_listed_curve(currency: u32, curved: bool, body: &[u8], rates: &mut [i64]) -> Taken
+pub fn take_listed_curve(currency: u32, curved: bool, body: &[u8], rates: &mut [i32]) -> Taken
     requires { ⌜ Body 81 currency (now body) ⌝ }
     requires { ⌜ RateParts curved (now rates) ⌝ }
     ensures { λ r. ⌜ CurveTaken (decodeListedCurve currencies (λ _. curved) (now (body .entry))) (now (rates .entry)) r (now (rates .exit)) ⌝ }

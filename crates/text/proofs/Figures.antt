@@ -10,6 +10,9 @@ use Rattle.laws.specs.Tests.{if_then_else_}
 use Rattle.laws.specs.Lists.{tabulateFrom, section}
 use Rattle.laws.proofs.Lists.{tabulateFrom-is}
 use Rattle.laws.proofs.Sections.{length-section, section-at}
+use Rattle.paper.specs.Records.{currencies}
+use Rattle.paper.specs.Ledger.{figures}
+use Rattle.paper.specs.Verdict.{measureAt}
 use Rattle.paper.specs.Program.{line, changesLine, changesLines}
 use Rattle.text.proofs.Items.{line-length}
 
@@ -41,20 +44,20 @@ changes-length curved report (suc n) =
 
 -- the lines of `reportText` but the last, as the code lists them: what it asks of the buffer at each
 pub record LineLengths (curved : ℕ → Bool) (report : List ℤ) : Type 0 where
-  pub changes : length (changesLines curved report 8) ≤ 1248
-  pub six : length (section 48 6 report) ≡ 6
-  pub sums : length (line 83 (section 48 6 report)) ≤ 134
-  pub three : length (section 54 3 report) ≡ 3
-  pub measures : length (line 77 (section 54 3 report)) ≤ 68
+  pub changes : length (changesLines curved report currencies) ≤ 156 * currencies
+  pub six : length (section (6 * currencies) 6 report) ≡ 6
+  pub sums : length (line 83 (section (6 * currencies) 6 report)) ≤ 134
+  pub three : length (section (measureAt currencies) 3 report) ≡ 3
+  pub measures : length (line 77 (section (measureAt currencies) 3 report)) ≤ 68
 
-pub line-lengths : (curved : ℕ → Bool) (report : List ℤ) → length report ≡ 58 → LineLengths curved report
+pub line-lengths : (curved : ℕ → Bool) (report : List ℤ) → length report ≡ figures currencies → LineLengths curved report
 line-lengths curved report e =
-    let six = length-section 48 6 report (omega arith) in
-    let three = length-section 54 3 report (omega arith) in
+    let six = length-section (6 * currencies) 6 report (omega arith) in
+    let three = length-section (measureAt currencies) 3 report (omega arith) in
     record {
-      changes = changes-length curved report 8;
+      changes = changes-length curved report currencies;
       six = six;
-      sums = omega (arith, line-length 83 (section 48 6 report));
+      sums = omega (arith, line-length 83 (section (6 * currencies) 6 report));
       three = three;
-      measures = omega (arith, line-length 77 (section 54 3 report));
+      measures = omega (arith, line-length 77 (section (measureAt currencies) 3 report));
     }

@@ -16,6 +16,7 @@ ghost use Rattle.paper.specs.Ledger.{figures};
 ghost use Rattle.paper.specs.Program.{changesLine, changesLines, verdictWord, reportText};
 ghost use Rattle.arrays.specs.Masks.{curvedBy};
 ghost use Rattle.text.specs.Written.{Wrote};
+ghost use Rattle.text.specs.Longest.{longestText};
 
 // Where the measure and the two numbers after it stand, after the changes and the sums, and the verdict.
 const MEASURE: usize = CHANGES + SHOCKED;
@@ -64,8 +65,8 @@ fn put_verdict(out: &mut [u8], at: usize, verdict: i64) -> usize
 
 // Each line starts where the one before it ends. Answers how many bytes they are; those after them are left as they are.
 pub fn write_report(report: &[i64], curved: u32, out: &mut [u8]) -> usize
-    requires { ⌜ (length (now report) ≡ figures currencies) × (2048 ≤ length (now out)) ⌝ }
-    ensures { λ r. ⌜ (r ≡ length (reportText currencies (curvedBy curved) (now (report .entry)))) × (r ≤ 2048) ⌝ }
+    requires { ⌜ (length (now report) ≡ figures currencies) × (longestText ≤ length (now out)) ⌝ }
+    ensures { λ r. ⌜ (r ≡ length (reportText currencies (curvedBy curved) (now (report .entry)))) × (r ≤ longestText) ⌝ }
     ensures { λ r. ⌜ now (out .exit) ≡ reportText currencies (curvedBy curved) (now (report .entry)) ++ drop r (now (out .entry)) ⌝ }
 {
     let sums = put_all_changes(out, report, curved);

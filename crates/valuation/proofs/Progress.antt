@@ -1,5 +1,5 @@
 -- The changes and the tolerances of the first n currencies are in their lists: none, one currency more, all.
-use Prim.Native.Nat.{ℕ, _+_, _*_, _≤_, _<_}
+use Prim.Native.Nat.{ℕ, zero, suc, _+_, _*_, _≤_, _<_}
 use mathlib.Core.Bool.{Bool, true, false}
 use mathlib.Core.List.{List}
 use mathlib.Core.Path.{_≡_, refl, ap}
@@ -50,13 +50,18 @@ module _ {t : Totals} {n : ℕ} {first second : List ℤ} (h : n < currencies) (
     tolerances-in = figures-skip (tolerances t) h (d .tolerances-in) (λ i p l. ap pos (nil-tolerance none i p l));
   }
 
+-- past the last currency with a curve there is nothing
+pub done-rest : (d : ℕ) {t : Totals} {n : ℕ} {first second : List ℤ} → n + d ≡ currencies → ((c : ℕ) → n < c → c ≤ currencies → Nothing t c) → Done t n first second → Done t currencies first second
+done-rest zero {t} {n} {first} {second} e none u = let end : n ≡ currencies = omega arith in rw end at u
+done-rest (suc d) {t} {n} e none u = done-rest d {n = n + 1} (omega arith) (λ c l h. none c (omega arith) h) (done-skip (omega arith) u (none (n + 1) (omega arith) (omega arith)))
+
 -- ---- all of them
 
 as-listed : (f : ℕ → ℕ → ℤ) {list : List ℤ} → list ≡ changesOf currencies f → (c i : ℕ) → 1 ≤ c → c ≤ currencies → 1 ≤ i → i ≤ shocked → listed list c i ≡ f c i
 unfolding listed
 as-listed f e c i l h p m = rw e (change-at currencies f c i l h p m)
 
-module _ (t : Totals) (curved : ℕ → Bool) (b : Bounds t curved) where
+module _ (t : Totals) (curved : ℕ → Bool) (b : Bounds t curved) (last : ℕ) (end : last ≤ currencies) (past : (c : ℕ) → last < c → c ≤ currencies → curved c ≡ false) where
   changes-small : (c i : ℕ) → 1 ≤ c → c ≤ currencies → 1 ≤ i → i ≤ shocked → natAbs (change t c i) ≤ mostOfAChange
   changes-small c i l h p m = by (curved c) refl
     where
@@ -78,11 +83,12 @@ module _ (t : Totals) (curved : ℕ → Bool) (b : Bounds t curved) where
     all-tolerances : second ≡ changesOf currencies (tolerances t)
     all-tolerances = figures-all (tolerances t) (d .tolerances-in)
 
-    pub change-figures : Figures first
-    change-figures = rw all-changes (figures-of (change t) changes-small)
+    pub change-figures : Figures last first
+    change-figures = rw all-changes (figures-of (change t) last end changes-small (λ c i l h. nil-change (b .nothing c (omega arith) h (past c l h)) i))
 
-    pub tolerance-figures : Figures second
-    tolerance-figures = rw all-tolerances (figures-of (tolerances t) tolerances-small)
+    pub tolerance-figures : Figures last second
+    tolerance-figures =
+        rw all-tolerances (figures-of (tolerances t) last end tolerances-small (λ c i l h p m. ap pos (nil-tolerance (b .nothing c (omega arith) h (past c l h)) i p m)))
 
     total-done : measure currencies (listed second) ≡ totalTolerance currencies (tolerance t)
     unfolding measure scenarioSum totalTolerance

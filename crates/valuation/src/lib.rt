@@ -9,16 +9,17 @@ ghost use Rattle.arrays.specs.Rooms.{totalsBy};
 ghost use Rattle.valuation.specs.Lengths.{ReportLengths};
 ghost use Rattle.valuation.specs.Bounds.{Bounds};
 use arrays::masks::has_curve;
+use arrays::masks::last_of;
 use paper::CHANGES;
-use paper::CURRENCIES;
 use scales::Thousands;
 
 mod report;
 
-// The report of the ledger, the rates and the add-ons. A currency without a curve has nothing in it and is passed over.
+// The report of the ledger, the rates and the add-ons. A currency without a curve has nothing in it and is passed
+// over, and past the last with a curve none is looked at.
 pub fn fill_report(
     ledger: &[i64],
-    rates: &[i64],
+    rates: &[i32],
     add_ons: &[i64],
     curved: u32,
     tier1: Thousands,
@@ -33,7 +34,8 @@ pub fn fill_report(
     let midpoints = ladder::midpoints();
     let mut changes = [0i64; CHANGES];
     let mut tolerances = [0i64; CHANGES];
-    for c in 0..CURRENCIES {
+    let last = last_of(curved) as usize;
+    for c in 0..last {
         if has_curve(curved, c as u32 + 1) {
             change::fill_currency(
                 ledger,
@@ -47,5 +49,5 @@ pub fn fill_report(
             );
         }
     }
-    report::write_report(&changes, &tolerances, tier1, report);
+    report::write_report(&changes, &tolerances, last, tier1, report);
 }

@@ -1,6 +1,6 @@
-// The report: 48 changes (currency by currency), 6 sums, measure, worst, total tolerance, verdict.
+// The report: 192 changes (currency by currency), 6 sums, measure, worst, total tolerance, verdict.
 ghost use mathlib.Core.Path.{_≡_};
-ghost use Prim.Native.Nat.{_*_, _≤_};
+ghost use Prim.Native.Nat.{_≤_};
 ghost use lib.IntN.{pos};
 ghost use lib.ListN.{length};
 ghost use Rattle.laws.specs.Lists.{tabulateFrom};
@@ -11,6 +11,7 @@ ghost use Rattle.paper.specs.Verdict.{scenarioSum, measure, reportFrom};
 ghost use Rattle.arrays.specs.Rooms.{listed};
 ghost use Rattle.verdict.specs.Figures.{Figures, mostOfASum};
 ghost use Rattle.valuation.specs.Closing.{closing};
+use arrays::cells::copy;
 use paper::CHANGES;
 use paper::FIGURES;
 use paper::SHOCKED;
@@ -24,22 +25,13 @@ use verdict::verdict::verdict_of;
 // The six sums start where the changes end, and here the last four numbers.
 const CLOSING: usize = CHANGES + SHOCKED;
 
-fn write_changes(changes: &[i64], room: &mut [i64])
-    requires { ⌜ (length (now changes) ≡ shocked * currencies) × (length (now room) ≡ shocked * currencies) ⌝ }
-    ensures { λ _. ⌜ now (room .exit) ≡ now (changes .entry) ⌝ }
-{
-    for j in 0..CHANGES {
-        room[j] = changes[j];
-    }
-}
-
-fn write_sums(changes: &[i64], room: &mut [i64])
+fn write_sums(changes: &[i64], last: usize, room: &mut [i64])
     requires { ⌜ length (now room) ≡ shocked ⌝ }
-    requires { ⌜ Figures (now changes) ⌝ }
+    requires { ⌜ Figures last (now changes) ⌝ }
     ensures { λ _. ⌜ now (room .exit) ≡ tabulateFrom (λ i. pos (scenarioSum currencies (listed (now (changes .entry))) i)) 1 shocked ⌝ }
 {
     for i in 0..SHOCKED {
-        room[i] = scenario_sum(changes, i + 1).0 as i64;
+        room[i] = scenario_sum(changes, last, i + 1).0 as i64;
     }
 }
 
@@ -57,14 +49,20 @@ fn write_closing(worst: Greatest, tolerance: Thousands, tier1: Thousands, room: 
 }
 
 // The total tolerance is the measure of the tolerances.
-pub fn write_report(changes: &[i64], tolerances: &[i64], tier1: Thousands, report: &mut [i64])
-    requires { ⌜ Figures (now changes) × Figures (now tolerances) ⌝ }
+pub fn write_report(
+    changes: &[i64],
+    tolerances: &[i64],
+    last: usize,
+    tier1: Thousands,
+    report: &mut [i64],
+)
+    requires { ⌜ Figures last (now changes) × Figures last (now tolerances) ⌝ }
     requires { ⌜ (tier1 .0 ≤ 1_000_000_000_000) × (length (now report) ≡ figures currencies) ⌝ }
     ensures { λ _. ⌜ now (report .exit) ≡ reportFrom currencies (listed (now (changes .entry))) (measure currencies (listed (now (tolerances .entry)))) (tier1 .0) ⌝ }
 {
-    let worst = greatest_sum(changes);
-    let tolerance = greatest_sum(tolerances).sum;
-    write_changes(changes, &mut report[0..CHANGES]);
-    write_sums(changes, &mut report[CHANGES..CLOSING]);
+    let worst = greatest_sum(changes, last);
+    let tolerance = greatest_sum(tolerances, last).sum;
+    copy(changes, &mut report[0..CHANGES]);
+    write_sums(changes, last, &mut report[CHANGES..CLOSING]);
     write_closing(worst, tolerance, tier1, &mut report[CLOSING..FIGURES]);
 }

@@ -26,13 +26,13 @@ fn room(label: &[u8], report: &mut [i64], ledger: &mut [i64]) {
 }
 
 pub fn show_report_room() {
-    let mut report = [0i64; 57];
+    let mut report = [0i64; 201];
     let mut ledger = [0i64; CELLS];
-    room(b"report room 57\n", &mut report, &mut ledger);
+    room(b"report room 201\n", &mut report, &mut ledger);
 }
 
 pub fn show_ledger_room() {
     let mut report = [0i64; FIGURES];
-    let mut ledger = [0i64; 1063];
-    room(b"ledger room 1,063\n", &mut report, &mut ledger);
+    let mut ledger = [0i64; 4255];
+    room(b"ledger room 4,255\n", &mut report, &mut ledger);
 }

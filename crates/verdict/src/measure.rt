@@ -1,4 +1,5 @@
-// Over currencies: the sums of losses, and the greatest of them. A list of changes has six for each currency.
+// Over currencies: the sums of losses, and the greatest of them. A list of changes has six for each currency; those past the last currency with a curve
+// are nil and not looked at.
 ghost use mathlib.Core.Path.{_≡_};
 ghost use Prim.Native.Nat.{_≤_};
 ghost use Rattle.laws.specs.Integers.{up};
@@ -7,7 +8,6 @@ ghost use Rattle.paper.specs.Flow.{shocked};
 ghost use Rattle.paper.specs.Verdict.{scenarioSum, measure, worst};
 ghost use Rattle.arrays.specs.Rooms.{listed};
 ghost use Rattle.verdict.specs.Figures.{Figures};
-use paper::CURRENCIES;
 use paper::SHOCKED;
 use scales::SignedThousands;
 use scales::Thousands;
@@ -24,13 +24,13 @@ fn positive(change: SignedThousands) -> Thousands
 }
 
 // A scenario's sum adds the positive changes over currencies.
-pub fn scenario_sum(changes: &[i64], scenario: usize) -> Thousands
+pub fn scenario_sum(changes: &[i64], last: usize, scenario: usize) -> Thousands
     requires { ⌜ (1 ≤ scenario) × (scenario ≤ shocked) ⌝ }
-    requires { ⌜ Figures (now changes) ⌝ }
+    requires { ⌜ Figures last (now changes) ⌝ }
     ensures { λ r. ⌜ r .0 ≡ scenarioSum currencies (listed (now (changes .entry))) scenario ⌝ }
 {
     let mut total = Thousands(0);
-    for c in 0..CURRENCIES {
+    for c in 0..last {
         let change = SignedThousands(changes[SHOCKED * c + (scenario - 1)]);
         total.0 += positive(change).0;
     }
@@ -43,15 +43,15 @@ pub struct Greatest {
     pub scenario: u64,
 }
 
-pub fn greatest_sum(changes: &[i64]) -> Greatest
-    requires { ⌜ Figures (now changes) ⌝ }
+pub fn greatest_sum(changes: &[i64], last: usize) -> Greatest
+    requires { ⌜ Figures last (now changes) ⌝ }
     ensures { λ r. ⌜ r .sum .0 ≡ measure currencies (listed (now (changes .entry))) ⌝ }
     ensures { λ r. ⌜ r .scenario ≡ worst currencies (listed (now (changes .entry))) ⌝ }
 {
     let mut greatest = Thousands(0);
     let mut reached: u64 = 0;
     for i in 0..SHOCKED {
-        let sum = scenario_sum(changes, i + 1);
+        let sum = scenario_sum(changes, last, i + 1);
         if greatest.0 < sum.0 {
             greatest = sum;
             reached = (i + 1) as u64;

@@ -16,7 +16,7 @@ use Rattle.paper.specs.Series.{denominator, seriesTerm, numerator, billionOverE
 use Rattle.paper.specs.Curve.{shortShare, rateChanges, shockedRate}
 use Rattle.paper.specs.Records.{Record, flows, single, curve, kinds, bodyLength, currencyOf, isCurve, currencies}
 use Rattle.paper.specs.Flow.{sided, due, flowOf, flow, adds, gives, magnitude}
-use Rattle.paper.specs.Ledger.{rateOf, ofCurrency, ofCurrencyℤ, totals, used, curved}
+use Rattle.paper.specs.Ledger.{rateOf, ofCurrency, ofCurrencyℤ, totals, used, curved, cells, figures}
 use Rattle.paper.specs.TurnedDown.{unknownKind, cutShort, badCurrency, badSide, badMonths, badDays, badAmount, secondCurve, badRate, badShock, badShocked, flowsOver, optionsOver, overLimit, lacksCurve, badCapital, bookTooLong, roomTooSmall}
 use Rattle.paper.specs.Fields.{signed, field, each}
 use Rattle.paper.specs.Decode.{decodeSingle, decodeCurve, decode}
@@ -49,14 +49,14 @@ example-covered : covered currencies kept ≡ accepted kept
 unfolding kept covered first unless lacksCurve used curved some currencyOf isCurve
 example-covered = refl
 
-taken : (T : ℕ) → badCapital T ≡ false → outcome currencies example T 58 1064 ≡ accepted kept
+taken : (T : ℕ) → badCapital T ≡ false → outcome currencies example T (figures currencies) (cells currencies) ≡ accepted kept
 unfolding outcome roomTooSmall unless _>>=_ _>>_
 taken T ok = rw (example-short, ok, example-walked, example-covered)
 
 -- ---- its report
 
 unfoldable pub changes : List ℤ
-changes = pos 632121 ∷ negsuc 1718281 ∷ replicate 46 (pos 0)
+changes = pos 632121 ∷ negsuc 1718281 ∷ replicate 190 (pos 0)
 
 -- sums, measure, worst, total tolerance, verdict
 unfoldable pub stated : ℕ → List ℤ
@@ -80,7 +80,7 @@ report-is T = report-written currencies (totals kept) changes changes-are T ∙ 
 
 -- the book is accepted at T, and its report is as stated, with the verdict's number
 pub record Reports (T number : ℕ) : Type 0 where
-  pub accepts : outcome currencies example T 58 1064 ≡ accepted kept
+  pub accepts : outcome currencies example T (figures currencies) (cells currencies) ≡ accepted kept
   pub report : reportOf currencies (totals kept) T ≡ stated number
 
 reports : (T : ℕ) → badCapital T ≡ false → Reports T (verdictNumber (verdict 632121 2 T))

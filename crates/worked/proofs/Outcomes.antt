@@ -38,7 +38,7 @@ pub record Row : Type 0 where
 
 -- with rooms and capital that do not matter
 unfoldable pub ends : List ℕ → ℕ → ℕ → Row
-ends book number place = record { gives = endingOf (outcome currencies book 1 58 1064); stated = record { number = number; place = place } }
+ends book number place = record { gives = endingOf (outcome currencies book 1 202 4256); stated = record { number = number; place = place } }
 
 unfoldable pub roomed : List ℕ → ℕ → ℕ → ℕ → ℕ → ℕ → Row
 roomed book T reportRoom ledgerRoom number place =
@@ -58,12 +58,12 @@ debt c amount = 1 ∷ singleBody c 2 12 0 amount
 
 unfoldable pub books : List Row
 books =
-    roomed (0 ∷ []) 0 57 1064 18 0
-    ∷ roomed (0 ∷ []) 0 58 1063 18 0
-    ∷ roomed (replicate 65529 0) 0 58 1064 17 0
-    ∷ roomed (0 ∷ []) 0 58 1064 16 0
-    ∷ roomed [] 1000000000001 58 1064 16 0
-    ∷ roomed [] 1000000000000 58 1064 0 0
+    roomed (0 ∷ []) 0 201 4256 18 0
+    ∷ roomed (0 ∷ []) 0 202 4255 18 0
+    ∷ roomed (replicate 65529 0) 0 202 4256 17 0
+    ∷ roomed (0 ∷ []) 0 202 4256 16 0
+    ∷ roomed [] 1000000000001 202 4256 16 0
+    ∷ roomed [] 1000000000000 202 4256 0 0
     ∷ ends [] 0 0
     ∷ ends (0 ∷ []) 1 0
     ∷ ends (asset 1 5 ++ (255 ∷ [])) 1 10
@@ -72,7 +72,7 @@ books =
     ∷ ends (asset 1 5 ++ (10 ∷ replicate 80 255)) 2 10
     ∷ ends (asset 1 5 ++ (9 ∷ replicate 19 255)) 2 10
     ∷ ends (asset 1 5 ++ (5 ∷ replicate 154 255)) 2 10
-    ∷ ends (1 ∷ singleBody 9 1 12 0 5) 3 1
+    ∷ ends (1 ∷ singleBody 33 1 12 0 5) 3 1
     ∷ ends (asset 1 5 ++ (7 ∷ optionBody 1 3 (in4 0))) 4 12
     ∷ ends (asset 1 5 ++ (2 ∷ couponsBody 1 1 6 101 1 1)) 5 14
     ∷ ends (asset 1 5 ++ (9 ∷ floatingSpreadBody 1 1 600 0 1 1 1 1 1)) 5 25
@@ -98,7 +98,7 @@ books =
     ∷ ends (asset 1 5 ++ (9 ∷ floatingSpreadBody 1 2 12 1 400000000 99999995 12 2 250000000) ++ curve 1) 0 3
     ∷ []
 
--- kind 10, in a table of its own, because a claim may take so many steps and no more
+-- kind 10, and the last currency, in a table of their own, because a claim may take so many steps and no more
 unfoldable pub listedBooks : List Row
 listedBooks =
     ends (curve 1 ++ listed 1) 12 84
@@ -106,6 +106,8 @@ listedBooks =
     ∷ ends (asset 1 5 ++ (10 ∷ listedBody 1 3 (N ∷ Z ∷ D ∷ []) (rates 19 (in4 0)))) 19 10
     ∷ ends (asset 1 5 ++ (10 ∷ listedBody 1 2 (N ∷ Z ∷ D ∷ []) (rates 19 (in4 0)))) 20 10
     ∷ ends (asset 1 5 ++ listed 1) 0 2
+    ∷ ends (curve 1 ++ asset 32 1) 15 32
+    ∷ ends (asset 32 1 ++ curve 32) 0 2
     ∷ []
 
 pub books-end : map (λ r. r .gives) books ≡ map (λ r. r .stated) books

@@ -16,7 +16,7 @@ use Rattle.paper.specs.Series.{denominator, seriesTerm, numerator, billionOverE
 use Rattle.paper.specs.Curve.{Curve, shortShare, rateChanges, shockedRate}
 use Rattle.paper.specs.Records.{Record, flows, single, curve, kinds, bodyLength, currencyOf, isCurve, currencies}
 use Rattle.paper.specs.Flow.{sided, due, flowOf, flow, adds, gives, magnitude}
-use Rattle.paper.specs.Ledger.{rateOf, ofCurrency, ofCurrencyℤ, totals, used, curved}
+use Rattle.paper.specs.Ledger.{rateOf, ofCurrency, ofCurrencyℤ, totals, used, curved, cells, figures}
 use Rattle.paper.specs.TurnedDown.{unknownKind, cutShort, badCurrency, badSide, badMonths, badDays, badAmount, secondCurve, badRate, badShock, badShocked, flowsOver, optionsOver, overLimit, lacksCurve, badCapital, bookTooLong, roomTooSmall}
 use Rattle.paper.specs.Fields.{signed, field, each}
 use Rattle.paper.specs.Decode.{decodeSingle, decodeCurve, decode}
@@ -43,7 +43,7 @@ kept =
 
 unfoldable pub changes : List ℤ
 changes =
-    (pos 632121 ∷ negsuc 1718281 ∷ replicate 4 (pos 0)) ++ (negsuc 632120 ∷ pos 1718282 ∷ replicate 4 (pos 0)) ++ replicate 36 (pos 0)
+    (pos 632121 ∷ negsuc 1718281 ∷ replicate 4 (pos 0)) ++ (negsuc 632120 ∷ pos 1718282 ∷ replicate 4 (pos 0)) ++ replicate 180 (pos 0)
 
 -- sums, measure, worst, total tolerance: the gain of one does not make up for the loss of the other
 unfoldable pub stated : List ℤ
@@ -62,7 +62,7 @@ covers : covered currencies kept ≡ accepted kept
 unfolding kept covered first unless lacksCurve used curved some currencyOf isCurve
 covers = refl
 
-pub taken : outcome currencies book 1 58 1064 ≡ accepted kept
+pub taken : outcome currencies book 1 (figures currencies) (cells currencies) ≡ accepted kept
 unfolding outcome roomTooSmall badCapital unless _>>=_ _>>_
 taken = rw (short, walked, covers)
 

@@ -1,5 +1,8 @@
 //! Whether what `irreport` printed is whole: a program that was cut short may have printed half a line.
 
+/// They are 1 to this.
+const CURRENCIES: u8 = 32;
+
 #[derive(Clone, Copy, Debug, PartialEq, Eq)]
 pub enum Answer {
     Report,
@@ -26,7 +29,13 @@ fn ends_whole(sums: &str, measure: &str, verdict: &str) -> bool {
 }
 
 fn is_currency(line: &str) -> bool {
-    ('1'..='8').any(|currency| numbers(line, &format!("C {currency} ")) == Some(6))
+    let parts = line.strip_prefix("C ").and_then(|rest| rest.split_once(' '));
+    parts.is_some_and(|(currency, changes)| is_currency_number(currency) && numbers(changes, "") == Some(6))
+}
+
+/// As `irreport` writes it: no zero and no sign before it.
+fn is_currency_number(word: &str) -> bool {
+    word.parse::<u8>().is_ok_and(|number| (1..=CURRENCIES).contains(&number) && number.to_string() == word)
 }
 
 /// How many numbers follow these letters, if nothing else does.
@@ -44,7 +53,7 @@ fn is_number(word: &str) -> bool {
 mod tests {
     use super::*;
 
-    const WHOLE: &str = "C 1 632121 -1718282 0 0 0 0\nC 8 0 0 0 0 0 -1\nS 632121 0 0 0 0 0\nM 632121 1 2\nV OVER\n";
+    const WHOLE: &str = "C 1 632121 -1718282 0 0 0 0\nC 32 0 0 0 0 0 -1\nS 632121 0 0 0 0 0\nM 632121 1 2\nV OVER\n";
 
     #[test]
     fn whole_answers() {
@@ -52,6 +61,20 @@ mod tests {
         assert_eq!(answer(b"S 0 0 0 0 0 0\nM 0 0 0\nV WITHIN\n"), Some(Answer::Report));
         assert_eq!(answer(b"S 0 0 0 0 0 0\nM 0 0 0\nV CLOSE\n"), Some(Answer::Report));
         assert_eq!(answer(b"R 2 523\n"), Some(Answer::Refusal));
+    }
+
+    #[test]
+    fn currencies_are_1_to_32_with_nothing_before_the_number() {
+        let of =
+            |currency: &str| answer(format!("C {currency} 0 0 0 0 0 0\nS 0 0 0 0 0 0\nM 0 0 0\nV WITHIN\n").as_bytes());
+        for currency in 1..=32 {
+            assert_eq!(of(&currency.to_string()), Some(Answer::Report), "{currency}");
+        }
+        for currency in
+            ["0", "33", "08", "00", "032", "010", "+9", "-9", "99", "100", "256", "265", "3 2", "", " 9", "x"]
+        {
+            assert_eq!(of(currency), None, "{currency}");
+        }
     }
 
     #[test]
@@ -77,7 +100,6 @@ mod tests {
             "S 0 0 0 0 0\nM 0 0 0\nV WITHIN\n",
             "S 0 0 0 0 0 0\nM 0 0 0 0\nV WITHIN\n",
             "S 0 0 0 0 0 0\nM 0 0 0\nV OVERWITHIN\n",
-            "C 9 0 0 0 0 0 0\nS 0 0 0 0 0 0\nM 0 0 0\nV WITHIN\n",
             "C 1 0 0 0 0 0\nS 0 0 0 0 0 0\nM 0 0 0\nV WITHIN\n",
             "S 0 0 0 0 0 0\nC 1 0 0 0 0 0 0\nM 0 0 0\nV WITHIN\n",
         ];

@@ -30,7 +30,7 @@ static EXPLANATIONS: [Explanation; 20] = [
         RECORD,
         "Compare the length of the file with that at its source: most often its end got lost.",
     ),
-    number(3, "bad currency: it has to be 1 to 8.", FIELD, "Look at the byte at the place, the second of its record."),
+    number(3, "bad currency: it has to be 1 to 32.", FIELD, "Look at the byte at the place, the second of its record."),
     number(
         4,
         "bad side: it has to be 1 or 2 (asset or liability; for an option add-on sold or bought).",
@@ -130,8 +130,8 @@ static EXPLANATIONS: [Explanation; 20] = [
     ),
     number(
         18,
-        "room too short: the caller's room for the report is below 58 numbers or that for the ledger below \
-         1,064.",
+        "room too short: the caller's room for the report is below 202 numbers or that for the ledger below \
+         4,256; or the stored report that was to be widened has not exactly 58 numbers.",
         NOUGHT,
         "This is about the calling program, not the book; irreport itself never gives it.",
     ),

@@ -24,8 +24,10 @@ const BEGINNINGS: [(&[u8], &str); 7] = [
 /// So much of a file tells whether it is text.
 const SEEN: usize = 4_096;
 
-/// Says what the bytes are, if they plainly are something else. No good book and no good input is among them: the
-/// second byte of a book is a currency, the first of an input belongs to capital, and neither stands in text.
+/// Says what the bytes are, if they plainly are something else. No good book and no good input is among them, for one of
+/// the first three bytes of each does not stand in text: the 0 that capital begins with; a kind from 1 to 8; or, after kind
+/// 9 or 10 (a tab, a newline) and any currency (32 is a blank), a side or an edition, 1 or 2. So the text of a book does
+/// not begin with a record either.
 pub fn something_else(bytes: &[u8], wanted: Wanted) -> Option<String> {
     let begins = BEGINNINGS.iter().find(|(beginning, _)| bytes.starts_with(beginning)).map(|(_, what)| *what);
     let found = begins.or_else(|| match wanted {

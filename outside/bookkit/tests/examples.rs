@@ -17,7 +17,7 @@ fn text_of(name: &str) -> String {
 
 #[test]
 fn text_input_and_report_agree() {
-    for name in ["worked", "small-bank", "listed-curves", "damaged", "mistyped"] {
+    for name in ["worked", "small-bank", "listed-curves", "abroad", "damaged", "mistyped"] {
         let input = example(&format!("{name}.input"));
         assert_eq!(make(&example(&format!("{name}.txt"))), Ok(input.clone()), "{name}");
         assert_eq!(irreport(&input), text_of(&format!("{name}.report")), "{name}");
@@ -63,6 +63,18 @@ fn the_listed_curves_are_those_of_the_small_bank_with_the_shocks_typed() {
     assert_eq!(of("listed-curves.txt", "edition=2 code=SGD", "edition=1 code=SGD"), small);
     let typed = ("parallel=150 short=200 long=100", "parallel=175 short=250 long=225");
     assert_eq!(of("small-bank.txt", typed.0, typed.1), listed);
+}
+
+/// Numbers may have gaps: the same bank in currencies 1, 2 and 3 has the same changes.
+#[test]
+fn the_bank_abroad_has_currencies_1_9_and_32_and_what_they_are_called_does_not_matter() {
+    let (text, report) = (text_of("abroad.txt"), text_of("abroad.report"));
+    let of_currency = |line: &str| line.split(' ').nth(1).map(str::to_string);
+    let currencies: Vec<_> = report.lines().filter(|line| line.starts_with("C ")).filter_map(of_currency).collect();
+    assert_eq!(currencies, ["1", "9", "32"]);
+    let called = text.replace("currency=9 ", "currency=2 ").replace("currency=32 ", "currency=3 ");
+    let due = report.replace("C 9 ", "C 2 ").replace("C 32 ", "C 3 ");
+    assert_eq!(irreport(&make(called.as_bytes()).expect("a good text")), due);
 }
 
 #[test]

@@ -1,6 +1,7 @@
 //! The text form: what it may look like, and what is said about a bad line.
 
 use bookkit::{explain, make, show_book, BadLine};
+use reference::{CURRENCIES, LEDGER_CELLS, LONGEST_BOOK, REPORT_CELLS, STORED_CELLS};
 
 const FLOW: [u8; 10] = [1, 2, 1, 1, 44, 5, 0, 0, 3, 232];
 
@@ -161,4 +162,16 @@ fn each_number_is_explained_and_no_other() {
         assert!(lines[1].starts_with(place), "{text}");
     }
     assert_eq!((explain(0), explain(21)), (None, None));
+}
+
+#[test]
+fn the_sizes_explained_are_those_of_the_reference() {
+    let assert_said = |number, size: String| {
+        let text = explain(number).expect("an explanation").replace(',', "");
+        assert!(text.contains(&size), "{size} in {text}");
+    };
+    assert_said(3, format!(" 1 to {CURRENCIES}."));
+    assert_said(17, format!(" at most {LONGEST_BOOK} bytes"));
+    assert_said(18, format!(" below {REPORT_CELLS} numbers or that for the ledger below {LEDGER_CELLS};"));
+    assert_said(18, format!(" not exactly {STORED_CELLS} numbers."));
 }

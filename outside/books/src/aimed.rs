@@ -3,13 +3,17 @@
 use crate::aimed_curves as curves;
 use crate::aimed_limits as limits;
 use crate::case::{joined, Case, Expected};
+use crate::currencies::{self, LAST};
 use crate::draw::Draw;
 use crate::position::{bearable_rates, position, some_curve, POSITIONS};
 use crate::valid;
 use reference::{
     is_curve, periods_start, shocks, Item, Kind, Record, GREATEST_CAPITAL, KINDS, LAST_MONTH, LEDGER_CELLS,
-    LONGEST_BOOK, REPORT_CELLS,
+    LONGEST_BOOK, REPORT_CELLS, STORED_CELLS,
 };
+
+/// The ledger of 8 currencies.
+const STORED_LEDGER_CELLS: usize = 1_064;
 
 pub fn case(draw: &mut Draw, number: u8, out: bool) -> Case {
     match number {
@@ -21,7 +25,7 @@ pub fn case(draw: &mut Draw, number: u8, out: bool) -> Case {
 
 /// A book whose last record, but for a tail that is never read, has the fault or just misses it.
 fn aimed_record(draw: &mut Draw, number: u8, out: bool) -> Case {
-    let currency = draw.between(1, 8);
+    let currency = currencies::any(draw);
     let mut book = front(draw, number, currency);
     let (mut records, within) = aimed_records(draw, number, currency, out);
     let last = records.pop().expect("an aimed record");
@@ -39,14 +43,20 @@ fn aimed_record(draw: &mut Draw, number: u8, out: bool) -> Case {
 
 /// Good records of other currencies, and a curve for the aimed one unless the aimed record is a curve itself.
 fn front(draw: &mut Draw, number: u8, currency: i64) -> Vec<u8> {
-    let others: Vec<i64> = (1..=8).filter(|other| *other != currency).collect();
-    let length = draw.between(0, 400) as usize;
-    let mut records = valid::records(draw, &others, length);
+    let others: Vec<i64> = currencies::all().into_iter().filter(|other| *other != currency).collect();
+    let length = some_length(draw);
+    let mut records = valid::some_records(draw, others, length);
     if ![12, 13, 19, 20].contains(&number) {
         records.push(some_curve(draw, currency));
         draw.shuffle(&mut records);
     }
     joined(&records)
+}
+
+/// Short in most cases; at times long enough for a curve in every currency.
+fn some_length(draw: &mut Draw) -> usize {
+    let most = if draw.once_in(8) { 4_000 } else { 400 };
+    draw.between(0, most) as usize
 }
 
 /// Records of the aimed currency, of which the last is the aimed one, and where in that one the fault is told: at the
@@ -87,7 +97,7 @@ fn some_position(draw: &mut Draw, currency: i64) -> Record {
 
 /// At times with a bad currency as well: 2 comes first.
 fn cut_short(draw: &mut Draw, currency: i64) -> Vec<u8> {
-    let currency = draw.pick(&[currency, 0, 9]);
+    let currency = draw.pick(&[currency, 0, LAST + 1]);
     let mut bytes =
         if draw.once_in(4) { some_curve(draw, currency).bytes() } else { some_position(draw, currency).bytes() };
     let length = draw.between(1, bytes.len() as i64 - 1);
@@ -107,6 +117,8 @@ fn field_at_its_edge(draw: &mut Draw, number: u8, currency: i64, out: bool) -> F
         Item::Period if out => draw.pick(&[0, 2, 4, 5, 7, 11, 13, 255]),
         Item::Period => plain.one("period"),
         Item::Currency if !out => currency,
+        // Beyond 32, 64 and 128, where a shift by a currency or its byte with a sign may come round again.
+        Item::Currency => draw.pick(&[0, LAST + 1, LAST + 1, LAST + 2, 2 * LAST, 2 * LAST + 1, 128, 129, 255]),
         // Just in, a rate has to bear the shocks as well, and a listed curve has no choice of them.
         Item::Rate if !out => {
             let (low, high) = bearable_rates(shocks(&plain).expect("a good curve"), index);
@@ -140,14 +152,26 @@ fn edge(draw: &mut Draw, item: Item, first: i64, last: i64, out: bool) -> i64 {
     draw.pick(&beyond)
 }
 
-/// Positions, of nil at times, in up to three currencies that have no curve; just in, the curves follow.
+/// The last one alone, or one to three of all.
+fn lacking_currencies(draw: &mut Draw) -> Vec<i64> {
+    if draw.once_in(4) {
+        return vec![LAST];
+    }
+    let count = draw.between(1, 3) as usize;
+    currencies::some_of(draw, currencies::all(), count)
+}
+
+/// Positions, of nil at times, in up to three currencies that have no curve; just in, the curves follow. At times every
+/// other currency has its curve.
 fn missing_curve(draw: &mut Draw, out: bool) -> Case {
-    let mut currencies: Vec<i64> = (1..=8).collect();
-    draw.shuffle(&mut currencies);
-    let (lacking, others) = currencies.split_at(draw.between(1, 3) as usize);
-    let length = draw.between(0, 400) as usize;
-    let mut records = valid::records(draw, others, length);
-    for currency in lacking {
+    let lacking = lacking_currencies(draw);
+    let others: Vec<i64> = currencies::all().into_iter().filter(|other| !lacking.contains(other)).collect();
+    let length = some_length(draw);
+    let mut records = match draw.once_in(8) {
+        true => valid::in_currencies(draw, &others, 4_000 + length),
+        false => valid::some_records(draw, others, length),
+    };
+    for currency in &lacking {
         let kind = draw.pick(&POSITIONS);
         let most = draw.pick(&[0, 1_000_000]);
         records.push(position(draw, kind, *currency, most));
@@ -156,7 +180,7 @@ fn missing_curve(draw: &mut Draw, out: bool) -> Case {
         }
     }
     draw.shuffle(&mut records);
-    let lowest = lacking.iter().fold(8, |lowest, currency| lowest.min(*currency));
+    let lowest = *lacking.iter().min().expect("one at least");
     let refused = Expected::Refused { number: 15, place: lowest as usize };
     let expected = if out { refused } else { Expected::Accepted };
     Case::of(draw, joined(&records), expected)
@@ -181,11 +205,11 @@ fn outside_the_records(draw: &mut Draw, number: u8, out: bool) -> Case {
     case
 }
 
-/// Rooms of which at least one is too short.
+/// Rooms of which at least one is too short, as one that was enough for 8 currencies is.
 fn short_rooms(draw: &mut Draw) -> (usize, usize) {
-    let report = draw.pick(&[0, 1, REPORT_CELLS - 1]);
-    let ledger = draw.pick(&[0, 1, LEDGER_CELLS - 1]);
-    let enough = (draw.pick(&[REPORT_CELLS, 100]), draw.pick(&[LEDGER_CELLS, 2_000]));
+    let report = draw.pick(&[0, 1, STORED_CELLS, REPORT_CELLS - 1]);
+    let ledger = draw.pick(&[0, 1, STORED_LEDGER_CELLS, LEDGER_CELLS - 1]);
+    let enough = (draw.pick(&[REPORT_CELLS, 300]), draw.pick(&[LEDGER_CELLS, 5_000]));
     draw.pick(&[(report, enough.1), (enough.0, ledger), (report, ledger)])
 }
 

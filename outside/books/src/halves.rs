@@ -2,6 +2,7 @@
 //! shocks in range bring them to a half.
 
 use crate::case::{joined, Case, Expected};
+use crate::currencies;
 use crate::draw::Draw;
 use crate::position::{position, record, some_curve};
 use reference::{exponent, meets_a_half, Record, BUCKETS, GREATEST_GROSS, RATES, UPPER_ENDS};
@@ -9,7 +10,7 @@ use std::sync::OnceLock;
 
 /// One flow, and at times an add-on, which is added after the rounding.
 pub fn case(draw: &mut Draw) -> Case {
-    let currency = draw.between(1, 8);
+    let currency = currencies::any(draw);
     let mut records = if draw.coin() { half_of_a_change(draw, currency) } else { half_of_a_factor(draw, currency) };
     if draw.coin() {
         records.push(position(draw, 7, currency, GREATEST_GROSS));

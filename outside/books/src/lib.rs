@@ -5,6 +5,7 @@ mod aimed;
 mod aimed_curves;
 mod aimed_limits;
 mod case;
+mod currencies;
 mod damage;
 mod draw;
 mod halves;
@@ -13,6 +14,7 @@ mod position;
 mod seeded;
 mod shrink;
 mod valid;
+mod wide;
 
 pub use aimed::case as aimed_case;
 pub use case::{Case, Expected};

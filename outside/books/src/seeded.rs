@@ -2,10 +2,12 @@
 
 use crate::aimed;
 use crate::case::{joined, Case, Expected};
+use crate::currencies::few;
 use crate::damage::damaged;
 use crate::draw::Draw;
 use crate::halves;
 use crate::valid;
+use crate::wide;
 use reference::{GREATEST_CAPITAL, LONGEST_BOOK};
 
 /// The case of a seed: good books, books aimed at a refusal number or at a rounding's half, and damaged ones.
@@ -42,10 +44,11 @@ pub fn good(draw: &mut Draw) -> Case {
     case
 }
 
+/// Few currencies in three books of four; where a book may have all, their curves come on top of the length.
 fn some_book(draw: &mut Draw, greatest_length: i64) -> Vec<u8> {
     let length = draw.between(0, greatest_length) as usize;
-    let currencies: Vec<i64> = (1..=8).collect();
-    joined(&valid::records(draw, &currencies, length))
+    let records = if draw.once_in(4) { wide::records(draw, length) } else { valid::some_records(draw, few(), length) };
+    joined(&records)
 }
 
 /// Capital where the verdict turns, or next to it: from over to close, or from close to within.

@@ -1,29 +1,38 @@
 //! Whole books that are accepted, of every size.
 
+use crate::currencies::{all, few, some_of};
 use crate::draw::Draw;
 use crate::position::{position, some_curve, POSITIONS};
 use reference::{Kind, Record, GREATEST_GROSS, LONGEST_BOOK};
 use std::collections::BTreeMap;
 
 /// Of kind 8; kind 10 is shorter.
-const LONGEST_CURVE: usize = 84;
+pub const LONGEST_CURVE: usize = 84;
+/// Of kind 5.
+pub const LONGEST_POSITION: usize = 156;
 
 /// The records of a good book of at most `length` bytes in some of the currencies, shuffled.
-pub fn records(draw: &mut Draw, currencies: &[i64], length: usize) -> Vec<Record> {
-    let mut currencies = currencies.to_vec();
-    draw.shuffle(&mut currencies);
-    currencies.truncate(draw.between(0, currencies.len() as i64).min((length / LONGEST_CURVE) as i64) as usize);
+pub fn some_records(draw: &mut Draw, currencies: Vec<i64>, length: usize) -> Vec<Record> {
+    let count = draw.index(currencies.len() + 1).min(length / LONGEST_CURVE);
+    let currencies = some_of(draw, currencies, count);
+    in_currencies(draw, &currencies, length)
+}
+
+/// The same in all of these currencies, whose curves have to fit.
+pub fn in_currencies(draw: &mut Draw, currencies: &[i64], length: usize) -> Vec<Record> {
     if currencies.is_empty() {
         return Vec::new();
     }
-    let (curves, curves_length) = curves(draw, &currencies);
+    let (curves, curves_length) = curves(draw, currencies);
     let kinds = kinds_up_to(draw, length - curves_length);
-    assemble(draw, &currencies, curves, &kinds)
+    assemble(draw, currencies, curves, &kinds)
 }
 
 /// The records of a good book that is as long as a book can be.
 pub fn longest_records(draw: &mut Draw) -> Vec<Record> {
-    let currencies: Vec<i64> = (1..=draw.between(1, 8)).collect();
+    let currencies = if draw.once_in(4) { all() } else { few() };
+    let count = 1 + draw.index(currencies.len());
+    let currencies = some_of(draw, currencies, count);
     let (curves, curves_length) = curves(draw, &currencies);
     let kinds = kinds_filling(draw, LONGEST_BOOK - curves_length);
     assemble(draw, &currencies, curves, &kinds)
@@ -36,9 +45,13 @@ fn curves(draw: &mut Draw, currencies: &[i64]) -> (Vec<Record>, usize) {
     (curves, length)
 }
 
-/// The curves of the currencies and one position for each kind; the limits are shared out among the positions.
+/// The curves of the currencies and one position for each kind, dealt out in turn in every other book; the limits are
+/// shared out among the positions.
 fn assemble(draw: &mut Draw, currencies: &[i64], curves: Vec<Record>, kinds: &[u8]) -> Vec<Record> {
-    let placed: Vec<(u8, i64)> = kinds.iter().map(|kind| (*kind, draw.pick(currencies))).collect();
+    let in_turn = draw.coin();
+    let mut place = |next: i64| if in_turn { next } else { draw.pick(currencies) };
+    let dealt = kinds.iter().zip(currencies.iter().cycle());
+    let placed: Vec<(u8, i64)> = dealt.map(|(kind, next)| (*kind, place(*next))).collect();
     let mut records = curves;
     let sharers = |currency: i64| placed.iter().filter(|(_, other)| *other == currency).count() as i64;
     let shares: BTreeMap<i64, i64> = currencies.iter().map(|currency| (*currency, sharers(*currency))).collect();

@@ -4,7 +4,7 @@ use books::{aimed_case, case, good_case, month_end, Draw, Expected};
 use reference::{
     bucket_index, listed, rate_changes, shocks, split, step, Answer, Code, Record, Step, LONGEST_BOOK, RATES,
 };
-use std::collections::BTreeMap;
+use std::collections::{BTreeMap, BTreeSet};
 
 #[test]
 fn good_books_are_accepted() {
@@ -23,8 +23,9 @@ fn good_books_have_every_kind_every_currency_and_the_greatest_length() {
         longest = longest.max(book.len());
         split(&book).0.iter().for_each(|record| *seen.entry((record[0], record[1])).or_insert(0) += 1);
     }
-    assert_eq!((seen.len(), longest), (10 * 8, LONGEST_BOOK));
-    assert!(seen.values().all(|times| *times > 100), "{seen:?}");
+    assert_eq!((seen.len(), longest), (10 * 32, LONGEST_BOOK));
+    let floor = |currency: u8| if currency <= 8 { 100 } else { 25 };
+    assert!(seen.iter().all(|((_, currency), times)| *times > floor(*currency)), "{seen:?}");
 }
 
 fn whole(bytes: &[u8]) -> Record {
@@ -124,6 +125,18 @@ fn aimed_books_are_turned_down_with_their_number_at_their_place() {
             assert_eq!(case.request().answer().refused(), Some((number, place)), "number {number}, seed {seed}");
         }
     }
+}
+
+/// One cell too short, as short as they were over 8 currencies, and just long enough.
+#[test]
+fn rooms_lie_at_their_edges() {
+    let rooms = |out| -> BTreeSet<(usize, usize)> {
+        let cases = (0..400).map(|seed| aimed_case(&mut Draw::seeded(seed), 18, out));
+        cases.map(|case| (case.report_room, case.ledger_room)).collect()
+    };
+    let short = [(201, 4_256), (202, 4_255), (201, 4_255), (58, 4_256), (202, 1_064), (58, 1_064)];
+    assert!(rooms(true).is_superset(&short.into()), "{:?}", rooms(true));
+    assert_eq!(rooms(false), [(202, 4_256)].into());
 }
 
 #[test]

@@ -1,7 +1,7 @@
 //! On a sample: the exact changes are within their tolerances, and the verdict is sound.
 
 use books::{case, good_case, Case, Draw};
-use reference::{Answer, Exact};
+use reference::{split, Answer, Exact};
 
 /// What is unsound about the case, if it is accepted; and whether it was.
 fn judge(case: &Case) -> (bool, Option<String>) {
@@ -26,13 +26,29 @@ fn reports_of_a_sample_are_sound() {
     assert!(judged > 100, "{judged}");
 }
 
+fn good_cases() -> impl Iterator<Item = (u64, Case)> {
+    (0..).map(|seed| (seed, good_case(&mut Draw::seeded(seed))))
+}
+
+fn curves(case: &Case) -> usize {
+    split(&case.book).0.iter().filter(|record| [8, 10].contains(&record[0])).count()
+}
+
 #[test]
 fn reports_of_long_books_are_sound() {
-    let long =
-        (0..).map(|seed| (seed, good_case(&mut Draw::seeded(seed)))).filter(|(_, case)| case.book.len() > 20_000);
+    let long = good_cases().filter(|(_, case)| case.book.len() > 20_000 && curves(case) <= 8);
     for (seed, case) in long.take(4) {
         assert_eq!(judge(&case), (true, None), "seed {seed}");
     }
+}
+
+/// The exact numbers of so many currencies take seconds: one book, and none of the longest, will do.
+#[test]
+fn the_report_of_a_book_in_all_currencies_is_sound() {
+    let in_all = |case: &Case| case.request().answer().accepted().is_some_and(|result| result.positions.uses_all());
+    let mut short = good_cases().filter(|(_, case)| case.book.len() < 9_000);
+    let (seed, case) = short.find(|(_, case)| in_all(case)).expect("some book is in all of them");
+    assert_eq!((curves(&case), judge(&case)), (32, (true, None)), "seed {seed}");
 }
 
 /// The judge is no yes-man: a report that is off by more than the tolerance, or a wrong verdict, is found.

@@ -1,6 +1,7 @@
 //! The C program that calls the C face, driven through a pipe (`face/pipe.c` says what goes to and fro).
 
 use crate::rooms::{Call, Outcome, Rooms};
+use crate::widening::Widening;
 use std::io::{self, BufReader, BufWriter, Read, Write};
 use std::process::{Child, ChildStdin, ChildStdout, Command, Stdio};
 
@@ -15,19 +16,41 @@ struct Running {
     from: BufReader<ChildStdout>,
 }
 
+/// What goes to the program: the book, or in its place the bytes of the stored report that is to be widened.
+struct Question<'a> {
+    book: &'a [u8],
+    capital: u64,
+    before: &'a Rooms,
+    at_front: bool,
+    widens: bool,
+}
+
 impl Face {
     /// The command may begin with an emulator. A program that cannot be started is an error here, no difference.
     pub fn start(command: &[String]) -> Result<Face, String> {
         Ok(Face { command: command.to_vec(), running: Some(start(command)?) })
     }
 
-    /// Makes the call. A program that dies of it is an error that says how; the next call starts it afresh.
+    /// Makes the call of `vorlegan_assess`.
     pub fn call(&mut self, call: &Call) -> Result<Outcome, String> {
+        let Call { book, capital, before, at_front } = call;
+        self.ask(&Question { book, capital: *capital, before, at_front: *at_front, widens: false })
+    }
+
+    /// Makes the call of `vorlegan_widen`.
+    pub fn widen(&mut self, widening: &Widening) -> Result<Outcome, String> {
+        let Widening { stored, before, at_front } = widening;
+        let bytes: Vec<u8> = stored.iter().flat_map(|cell| cell.to_le_bytes()).collect();
+        self.ask(&Question { book: &bytes, capital: 0, before, at_front: *at_front, widens: true })
+    }
+
+    /// A program that dies of the call is an error that says how; the next call starts it afresh.
+    fn ask(&mut self, question: &Question) -> Result<Outcome, String> {
         if self.running.is_none() {
             self.running = Some(start(&self.command)?);
         }
         let running = self.running.as_mut().expect("started above");
-        running.ask(call).map_err(|error| match self.running.take() {
+        running.ask(question).map_err(|error| match self.running.take() {
             Some(running) => format!("the call did not return: {}", running.end(error)),
             None => error.to_string(),
         })
@@ -44,13 +67,13 @@ fn start(command: &[String]) -> Result<Running, String> {
 }
 
 impl Running {
-    fn ask(&mut self, call: &Call) -> io::Result<Outcome> {
-        let before = &call.before;
+    fn ask(&mut self, question: &Question) -> io::Result<Outcome> {
+        let Question { book, capital, before, at_front, widens } = question;
         let lengths = [before.report.len(), before.ledger.len(), before.place.len()];
         let [report, ledger, place] = lengths;
-        let head = [call.book.len() as u64, call.capital, report as u64, ledger as u64, place as u64];
-        self.put(head.iter().chain(&[u64::from(call.at_front)]).copied())?;
-        self.to.write_all(&call.book)?;
+        let head = [book.len() as u64, *capital, report as u64, ledger as u64, place as u64];
+        self.put(head.into_iter().chain([u64::from(*at_front), u64::from(*widens)]))?;
+        self.to.write_all(book)?;
         for room in [&before.report, &before.ledger, &before.place] {
             self.put(room.iter().map(|cell| *cell as u64))?;
         }

@@ -9,6 +9,7 @@ mod streams;
 mod tally;
 mod through_face;
 mod through_program;
+mod widening;
 
 use face::Face;
 use program::Program;
@@ -20,6 +21,7 @@ const HELP: &str = "\
 compare face FIRST-SEED CASES -- PIPE          seeded cases through the C face, against the reference
 compare first FIRST-SEED CASES -- PIPE         the same, no further than the first difference
 compare long SECONDS -- PIPE                   the same in batches from fresh seeds, for so long
+compare widen FIRST-SEED SEEDS -- PIPE         stored reports of 58 numbers made into such of 202, through the C face
 compare irreport FIRST-SEED CASES -- IRREPORT  seeded inputs through the report program
 compare streams -- IRREPORT                    the report program with streams that cannot be read or written
 compare inputs FIRST-SEED CASES DIRECTORY      write the seeded inputs as files, with nothing compared
@@ -59,7 +61,7 @@ fn main() -> ExitCode {
 
 fn run(words: &[&str], command: &[String]) -> Result<Ending, String> {
     match (words, command) {
-        (["face" | "first" | "long" | "irreport" | "streams", ..] | ["month-end"], []) => {
+        (["face" | "first" | "long" | "widen" | "irreport" | "streams", ..] | ["month-end"], []) => {
             Err("-- COMMAND is wanted".to_string())
         }
         ([mode @ ("face" | "first"), seed, cases], _) => {
@@ -71,6 +73,11 @@ fn run(words: &[&str], command: &[String]) -> Result<Ending, String> {
             let tally = long::compare(&mut Face::start(command)?, number(seconds)?);
             Ok(ending(format!("C face, fresh seeds for {seconds} s"), tally, &FACE))
         }
+        (["widen", seed, seeds], _) => {
+            let widened = widening::compare(&mut Face::start(command)?, number(seed)?, number(seeds)?);
+            let line = widened.line(&format!("C face, stored reports, seeds from {seed}"));
+            Ok(Ending { line, complaint: widened.complaint() })
+        }
         (["irreport", seed, cases], _) => {
             let tally = through_program::compare(&Program::of(command)?, number(seed)?, number(cases)?);
             Ok(ending(format!("irreport, seeds from {seed}"), tally, &PROGRAM))
@@ -80,7 +87,10 @@ fn run(words: &[&str], command: &[String]) -> Result<Ending, String> {
         (["month-end"], _) => month_end(&mut Face::start(command)?),
         (["month-end", directory], []) => month_end_inputs(Path::new(directory)),
         (["help" | "--help" | "-h"], []) => Ok(Ending { line: HELP.trim_end().to_string(), complaint: None }),
-        _ => Err("face, first, long, irreport, streams, inputs, month-end or help is wanted, as help says".to_string()),
+        _ => {
+            let words = "face, first, long, widen, irreport, streams, inputs, month-end or help";
+            Err(format!("{words} is wanted, as help says"))
+        }
     }
 }
 

@@ -31,12 +31,8 @@ impl Call {
     /// The call of a case. The seed decides what is not the case's business: the pattern in the rooms, how many
     /// cells are lent for the place, and where the rooms lie.
     pub fn of(case: Case, seed: u64) -> Call {
-        let before = Rooms {
-            report: pattern(seed, case.report_room),
-            ledger: pattern(!seed, case.ledger_room),
-            place: pattern(seed, [1, 2, 1, 3, 1, 2, 1, 0][seed as usize % 8]),
-        };
-        Call { book: case.book, capital: case.capital, before, at_front: seed / 8 % 4 == 0 }
+        let before = Rooms::patterned(seed, case.report_room, case.ledger_room);
+        Call { book: case.book, capital: case.capital, before, at_front: at_front(seed) }
     }
 
     pub fn with_book(&self, book: &[u8]) -> Call {
@@ -53,6 +49,21 @@ impl Call {
     }
 }
 
+impl Rooms {
+    pub fn patterned(seed: u64, report_cells: usize, ledger_cells: usize) -> Rooms {
+        Rooms {
+            report: pattern(seed, report_cells),
+            ledger: pattern(!seed, ledger_cells),
+            place: pattern(seed, [1, 2, 1, 3, 1, 2, 1, 0][seed as usize % 8]),
+        }
+    }
+}
+
+/// Whether each room lies at the front of its pages or ends at their end.
+pub fn at_front(seed: u64) -> bool {
+    seed / 8 % 4 == 0
+}
+
 /// Cells that no book would bring about by chance, different from cell to cell and from seed to seed.
 fn pattern(seed: u64, cells: usize) -> Vec<i64> {
     let mixed = |cell: u64| (seed ^ 0x5bd1_e995).wrapping_mul(0x9e37_79b9_7f4a_7c15).wrapping_add(cell << 40 | 0xa5);
@@ -64,7 +75,12 @@ impl Outcome {
     pub fn due(call: &Call, answer: &reference::Answer) -> Outcome {
         let mut rooms = call.before.clone();
         answer.fill(&mut rooms.report, &mut rooms.ledger);
-        let (number, place) = answer.refused().unwrap_or((0, 0));
+        Outcome::told(answer.refused(), rooms)
+    }
+
+    /// The rooms with the place told in them, and the number: 0 for both where there is no refusal.
+    pub fn told(refused: Option<(u8, usize)>, mut rooms: Rooms) -> Outcome {
+        let (number, place) = refused.unwrap_or((0, 0));
         if let Some(cell) = rooms.place.first_mut() {
             *cell = place as i64;
         }
@@ -93,14 +109,26 @@ mod tests {
     use super::{pattern, Call};
     use std::collections::BTreeSet;
 
+    /// No case lends more cells.
+    const LONGEST_ROOM: usize = 5_000;
+
     /// A cell that is written with what it should hold anyway would hide a difference.
     #[test]
     fn no_two_cells_of_a_pattern_are_alike_and_none_is_nil() {
         for seed in 0..100 {
-            let cells = pattern(seed, 2_000);
+            let cells = pattern(seed, LONGEST_ROOM);
             let different: BTreeSet<i64> = cells.iter().copied().collect();
-            assert!(different.len() == 2_000 && different.iter().all(|cell| cell.unsigned_abs() > 1 << 32), "{seed}");
+            assert!(
+                different.len() == LONGEST_ROOM && different.iter().all(|cell| cell.unsigned_abs() > 1 << 32),
+                "{seed}"
+            );
         }
+    }
+
+    #[test]
+    fn no_room_is_longer() {
+        let rooms = (0..10_000).map(books::case).map(|case| case.report_room.max(case.ledger_room));
+        assert_eq!(rooms.max(), Some(LONGEST_ROOM));
     }
 
     #[test]

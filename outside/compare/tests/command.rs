@@ -23,9 +23,10 @@ fn wrong_words_get_one_line() {
 
 #[test]
 fn a_program_that_is_not_there_gets_one_line() {
-    for words in [&["face", "1", "2"][..], &["long", "1"], &["irreport", "1", "2"], &["streams"], &["month-end"]] {
+    let seeded = ["face", "widen", "irreport"].map(|mode| vec![mode, "1", "2"]);
+    for words in seeded.into_iter().chain([vec!["long", "1"], vec!["streams"], vec!["month-end"]]) {
         assert_one_line(
-            &compare(&[words, &["--", "/no/such/program"]].concat()),
+            &compare(&[&words[..], &["--", "/no/such/program"]].concat()),
             "/no/such/program: cannot be started",
         );
     }
@@ -39,4 +40,12 @@ fn a_program_that_answers_wrongly_is_a_difference_with_its_seed() {
     assert_eq!(output.status.code(), Some(1));
     assert!(said.contains("difference at seed 7: ") && said.contains("  smallest: "), "{said}");
     assert!(said.lines().last().is_some_and(|line| line.ends_with("1 differences")), "{said}");
+}
+
+#[test]
+fn a_stored_report_that_is_widened_wrongly_is_a_difference_with_its_seed() {
+    let output = compare(&["widen", "7", "2", "--", "cat"]);
+    let said = String::from_utf8_lossy(&output.stdout);
+    assert_eq!(output.status.code(), Some(1));
+    assert!(said.contains("difference at seed 7: ") && said.contains("difference at seed 8: "), "{said}");
 }

@@ -3,7 +3,7 @@
 use crate::coupons::{add_coupons, add_floating_spread};
 use crate::curve::{add_curve, add_listed_curve};
 use crate::fields::{amount, amounts, days, months, option_value, side, Refusal};
-use crate::holdings::{Holdings, CURRENCIES, SHOCKED};
+use crate::holdings::{Holdings, Section, SHOCKED};
 use crate::ladder::{bucket, MIDPOINTS};
 use crate::loans::{add_loan, add_term_deposit};
 
@@ -16,11 +16,10 @@ pub fn walk(book: &[u8], holdings: &mut Holdings) -> Result<(), Refusal> {
         take(kind, body, holdings).map_err(|refusal| Refusal { place: at + refusal.place, ..refusal })?;
         at += 1 + length;
     }
-    let missing = holdings.used & !holdings.curved;
-    if missing != 0 {
-        return Err(Refusal { number: 15, place: missing.trailing_zeros() as usize + 1 });
+    match holdings.lacks_curve() {
+        Some(currency) => Err(Refusal { number: 15, place: currency }),
+        None => Ok(()),
     }
-    Ok(())
 }
 
 fn body_length(kind: u8) -> Option<usize> {
@@ -39,46 +38,43 @@ fn body_length(kind: u8) -> Option<usize> {
 }
 
 fn take(kind: u8, body: &[u8], holdings: &mut Holdings) -> Result<(), Refusal> {
-    let currency = usize::from(body[0]).wrapping_sub(1);
-    if currency >= CURRENCIES {
-        return Err(Refusal::of_field(3, 0));
-    }
+    let Some(section) = holdings.section(body[0]) else { return Err(Refusal::of_field(3, 0)) };
     match kind {
-        1 => add_single(currency, body, holdings)?,
-        2 => add_coupons(currency, body, holdings)?,
-        3 => add_floating(currency, body, holdings)?,
-        4 => add_deposit(currency, body, holdings)?,
-        5 => add_loan(currency, body, holdings)?,
-        6 => add_term_deposit(currency, body, holdings)?,
-        7 => add_option(currency, body, holdings)?,
-        8 => return add_curve(currency, body, holdings),
-        9 => add_floating_spread(currency, body, holdings)?,
-        _ => return add_listed_curve(currency, body, holdings),
+        1 => add_single(body, section)?,
+        2 => add_coupons(body, section)?,
+        3 => add_floating(body, section)?,
+        4 => add_deposit(body, section)?,
+        5 => add_loan(body, section)?,
+        6 => add_term_deposit(body, section)?,
+        7 => add_option(body, section)?,
+        8 => return add_curve(body, section),
+        9 => add_floating_spread(body, section)?,
+        _ => return add_listed_curve(body, section),
     }
-    holdings.used |= 1 << currency;
+    section.used = true;
     Ok(())
 }
 
-fn add_single(currency: usize, body: &[u8], holdings: &mut Holdings) -> Result<(), Refusal> {
+fn add_single(body: &[u8], section: &mut Section) -> Result<(), Refusal> {
     let side = side(body)?;
     let months = months(body, 2)?;
     let days = days(body, 4)?;
     let amount = amount(body, 5)?;
-    holdings.add_amount(currency, bucket(months, days), side, amount)
+    section.add_amount(bucket(months, days), side, amount)
 }
 
 /// Principal and coupon both fall at the reset.
-fn add_floating(currency: usize, body: &[u8], holdings: &mut Holdings) -> Result<(), Refusal> {
+fn add_floating(body: &[u8], section: &mut Section) -> Result<(), Refusal> {
     let side = side(body)?;
     let months = months(body, 2)?;
     let days = days(body, 4)?;
     let principal = amount(body, 5)?;
     let coupon = amount(body, 9)?;
-    holdings.add_amount(currency, bucket(months, days), side, principal + coupon)
+    section.add_amount(bucket(months, days), side, principal + coupon)
 }
 
 /// A liability: each core amount in its bucket, total less core in bucket 1.
-fn add_deposit(currency: usize, body: &[u8], holdings: &mut Holdings) -> Result<(), Refusal> {
+fn add_deposit(body: &[u8], section: &mut Section) -> Result<(), Refusal> {
     let (cap, average_cap) = match body[1] {
         1 => (90, 50_000),
         2 => (70, 45_000),
@@ -97,14 +93,14 @@ fn add_deposit(currency: usize, body: &[u8], holdings: &mut Holdings) -> Result<
     }
     let mut row = core.map(|amount| -amount);
     row[0] -= total - sum;
-    holdings.add_row(currency, &row, total)
+    section.add_row(&row, total)
 }
 
-fn add_option(currency: usize, body: &[u8], holdings: &mut Holdings) -> Result<(), Refusal> {
+fn add_option(body: &[u8], section: &mut Section) -> Result<(), Refusal> {
     let side = side(body)?;
     let mut values = [0; SHOCKED];
     for (scenario, value) in values.iter_mut().enumerate() {
         *value = option_value(body, 2 + 4 * scenario)?;
     }
-    holdings.add_options(currency, side, &values)
+    section.add_options(side, &values)
 }

@@ -2,10 +2,10 @@
 //! is no pass over the single coupons.
 
 use crate::fields::{amount, count, days, months, period, side, Refusal};
-use crate::holdings::Holdings;
+use crate::holdings::Section;
 use crate::ladder::{bucket, BUCKETS, ENDS};
 
-pub fn add_coupons(currency: usize, body: &[u8], holdings: &mut Holdings) -> Result<(), Refusal> {
+pub fn add_coupons(body: &[u8], section: &mut Section) -> Result<(), Refusal> {
     let side = side(body)?;
     let period = period(body, 2)?;
     let count = count(body, 3, 0, period)?;
@@ -13,11 +13,11 @@ pub fn add_coupons(currency: usize, body: &[u8], holdings: &mut Holdings) -> Res
     let principal = amount(body, 9)?;
     let mut row = regular(0, period, count, side * coupon);
     row[bucket(period * count, 0)] += side * principal;
-    holdings.add_row(currency, &row, i64::from(count) * coupon + principal)
+    section.add_row(&row, i64::from(count) * coupon + principal)
 }
 
 /// Principal and coupon at the reset, the spread after it.
-pub fn add_floating_spread(currency: usize, body: &[u8], holdings: &mut Holdings) -> Result<(), Refusal> {
+pub fn add_floating_spread(body: &[u8], section: &mut Section) -> Result<(), Refusal> {
     let side = side(body)?;
     let months = months(body, 2)?;
     let days = days(body, 4)?;
@@ -30,7 +30,7 @@ pub fn add_floating_spread(currency: usize, body: &[u8], holdings: &mut Holdings
     let start = if days == 0 { months } else { months + 1 };
     let mut row = regular(start, period, count, side * spread);
     row[bucket(months, days)] += side * (principal + coupon);
-    holdings.add_row(currency, &row, i64::from(count) * spread + principal + coupon)
+    section.add_row(&row, i64::from(count) * spread + principal + coupon)
 }
 
 /// `count` flows, the first a period after the start.

@@ -1,7 +1,7 @@
 //! Kinds 8 and 10 and the shocks (01, "Curves and shocks"; 02, request 5).
 
 use crate::fields::{rate, rate_in_range, shock, Refusal};
-use crate::holdings::{Holdings, SCENARIOS};
+use crate::holdings::{Section, SCENARIOS};
 use crate::ladder::BUCKETS;
 use crate::listed::listed_shocks;
 use crate::report::rounded;
@@ -10,23 +10,23 @@ use crate::table::SHORT_SHARES;
 const BILLION: i64 = 1_000_000_000;
 
 /// 12 comes after the currency, shocked rates last.
-pub fn add_curve(currency: usize, body: &[u8], holdings: &mut Holdings) -> Result<(), Refusal> {
-    refuse_second(currency, holdings)?;
+pub fn add_curve(body: &[u8], section: &mut Section) -> Result<(), Refusal> {
+    refuse_second(section)?;
     let base = rates(body, 1)?;
     let shocks = [shock(body, 77)?, shock(body, 79)?, shock(body, 81)?];
-    add_shocked(currency, &base, 1, shocks, holdings)
+    add_shocked(&base, 1, shocks, section)
 }
 
 /// 12, then 19 and 20, then the rates.
-pub fn add_listed_curve(currency: usize, body: &[u8], holdings: &mut Holdings) -> Result<(), Refusal> {
-    refuse_second(currency, holdings)?;
+pub fn add_listed_curve(body: &[u8], section: &mut Section) -> Result<(), Refusal> {
+    refuse_second(section)?;
     let shocks = listed_shocks(body, 1)?;
     let base = rates(body, 5)?;
-    add_shocked(currency, &base, 5, shocks, holdings)
+    add_shocked(&base, 5, shocks, section)
 }
 
-fn refuse_second(currency: usize, holdings: &Holdings) -> Result<(), Refusal> {
-    if holdings.has_curve(currency) {
+fn refuse_second(section: &Section) -> Result<(), Refusal> {
+    if section.curved {
         return Err(Refusal::of_record(12));
     }
     Ok(())
@@ -43,11 +43,10 @@ fn rates(body: &[u8], from: usize) -> Result<[i64; BUCKETS], Refusal> {
 
 /// The base rates stand in the body from this byte on: a shocked rate out of range is told there.
 fn add_shocked(
-    currency: usize,
     base: &[i64; BUCKETS],
     from: usize,
     [parallel, short, long]: [i64; 3],
-    holdings: &mut Holdings,
+    section: &mut Section,
 ) -> Result<(), Refusal> {
     for bucket in 0..BUCKETS {
         let changes = changes(parallel, short, long, SHORT_SHARES[bucket]);
@@ -56,10 +55,10 @@ fn add_shocked(
             if !rate_in_range(shocked) {
                 return Err(Refusal::of_field(13, from + 4 * bucket));
             }
-            holdings.rates[currency][scenario][bucket] = shocked;
+            section.rates[scenario][bucket] = shocked;
         }
     }
-    holdings.curved |= 1 << currency;
+    section.curved = true;
     Ok(())
 }
 

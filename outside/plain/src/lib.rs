@@ -37,7 +37,7 @@ pub fn assess(book: &[u8], capital: u64, report: &mut [i64], ledger: &mut [i64])
     let mut holdings = Holdings::new();
     match book::walk(book, &mut holdings) {
         Ok(()) => {
-            ledger.copy_from_slice(holdings.flows.as_flattened().as_flattened());
+            holdings.write_flows(ledger);
             report::write(&holdings, capital as i64, &mut report[..REPORT_CELLS]);
             Ok(())
         }

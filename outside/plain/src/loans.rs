@@ -1,7 +1,7 @@
 //! Kinds 5 and 6, whose flows differ by scenario: there are three rates, of which each scenario has one.
 
 use crate::fields::{amounts, share, Refusal, GREATEST_AMOUNT};
-use crate::holdings::{Holdings, SCENARIOS};
+use crate::holdings::{Section, SCENARIOS};
 use crate::ladder::{BUCKETS, WIDTHS};
 
 const MULTIPLES: [u64; 3] = [10, 8, 12];
@@ -15,7 +15,7 @@ fn rates(share: u64) -> [u64; 3] {
     MULTIPLES.map(|multiple| (share * multiple).min(WHOLE_RATE))
 }
 
-pub fn add_loan(currency: usize, body: &[u8], holdings: &mut Holdings) -> Result<(), Refusal> {
+pub fn add_loan(body: &[u8], section: &mut Section) -> Result<(), Refusal> {
     let share = share(body)?;
     let principals = amounts(body, 3)?;
     let interests = amounts(body, 79)?;
@@ -35,7 +35,7 @@ pub fn add_loan(currency: usize, body: &[u8], holdings: &mut Holdings) -> Result
     for (index, rate) in rates(share).into_iter().enumerate() {
         gross[index] = fill_loan(rate, principal as u64, &principals, &interests, &mut rows[index]);
     }
-    holdings.add_rows(currency, &LOAN_RATES, &rows, &gross)
+    section.add_rows(&LOAN_RATES, &rows, &gross)
 }
 
 /// What is paid, prepaid and due as interest, bucket by bucket.
@@ -59,7 +59,7 @@ fn fill_loan(rate: u64, principal: u64, principals: &Row, interests: &Row, row: 
 }
 
 /// A liability: part of each amount moves to bucket 1.
-pub fn add_term_deposit(currency: usize, body: &[u8], holdings: &mut Holdings) -> Result<(), Refusal> {
+pub fn add_term_deposit(body: &[u8], section: &mut Section) -> Result<(), Refusal> {
     let share = share(body)?;
     let amounts = amounts(body, 3)?;
     let mut rows = [[0; BUCKETS]; 3];
@@ -67,7 +67,7 @@ pub fn add_term_deposit(currency: usize, body: &[u8], holdings: &mut Holdings) -
         fill_term_deposit(rate, &amounts, row);
     }
     let gross = amounts.iter().sum();
-    holdings.add_rows(currency, &TERM_DEPOSIT_RATES, &rows, &[gross; 3])
+    section.add_rows(&TERM_DEPOSIT_RATES, &rows, &[gross; 3])
 }
 
 fn fill_term_deposit(rate: u64, amounts: &Row, row: &mut Row) {

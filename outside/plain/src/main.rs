@@ -2,8 +2,9 @@
 
 use std::io::{self, BufReader, BufWriter, Read, Write};
 
-/// A case's numbers before the book: its bytes, T, the cells of report, ledger and place, and where the rooms would lie.
-const HEAD: usize = 6;
+/// A case's numbers before the book: its bytes, T, the cells of report, ledger and place, where the rooms would lie, and
+/// whether it is a stored report that is to be widened, which is no part of this program.
+const HEAD: usize = 7;
 
 fn main() -> io::Result<()> {
     let mut from = BufReader::new(io::stdin());
@@ -25,6 +26,9 @@ fn head(from: &mut impl Read) -> io::Result<Option<Vec<i64>>> {
 }
 
 fn answer(head: &[i64], from: &mut impl Read, to: &mut impl Write) -> io::Result<()> {
+    if head[6] != 0 {
+        return Err(io::Error::other("nothing is widened here"));
+    }
     let mut book = vec![0; head[0] as usize];
     from.read_exact(&mut book)?;
     let mut report = cells(from, head[2] as usize)?;

@@ -1,6 +1,6 @@
 //! From flows to the verdict (01, "Discount factor", "From flows to verdict").
 
-use crate::holdings::{Holdings, CURRENCIES, SHOCKED};
+use crate::holdings::{Holdings, Section, CURRENCIES, SHOCKED};
 use crate::ladder::{BUCKETS, MIDPOINTS};
 use crate::table::FACTORS;
 
@@ -20,11 +20,12 @@ pub fn rounded(billionths: i64) -> i64 {
 pub fn write(holdings: &Holdings, capital: i64, report: &mut [i64]) {
     let mut sums = [0; SHOCKED];
     let mut tolerances = [0; SHOCKED];
-    for currency in 0..CURRENCIES {
-        let changes = &mut report[SHOCKED * currency..SHOCKED * (currency + 1)];
-        changes.fill(0);
-        if holdings.has_curve(currency) {
-            add_currency(holdings, currency, changes, &mut sums, &mut tolerances);
+    let (changes, rest) = report.split_at_mut(SHOCKED * CURRENCIES);
+    changes.fill(0);
+    for (changes, section) in changes.chunks_exact_mut(SHOCKED).zip(&holdings.sections) {
+        // In an accepted book every section has its curve.
+        if let Some(section) = section {
+            add_currency(section, changes, &mut sums, &mut tolerances);
         }
     }
     let measure = sums.iter().copied().fold(0, i64::max);
@@ -33,7 +34,6 @@ pub fn write(holdings: &Holdings, capital: i64, report: &mut [i64]) {
         _ => 0,
     };
     let tolerance = tolerances.iter().copied().fold(0, i64::max);
-    let rest = &mut report[SHOCKED * CURRENCIES..];
     rest[..SHOCKED].copy_from_slice(&sums);
     rest[SHOCKED..].copy_from_slice(&[measure, worst, tolerance, verdict(measure, tolerance, capital)]);
 }
@@ -49,17 +49,11 @@ fn verdict(measure: i64, tolerance: i64, capital: i64) -> i64 {
 }
 
 /// One currency's changes, added to the sums of losses, and its tolerances.
-fn add_currency(
-    holdings: &Holdings,
-    currency: usize,
-    changes: &mut [i64],
-    sums: &mut [i64; SHOCKED],
-    tolerances: &mut [i64; SHOCKED],
-) {
-    let (base, base_size) = valued(holdings, currency, 0);
+fn add_currency(section: &Section, changes: &mut [i64], sums: &mut [i64; SHOCKED], tolerances: &mut [i64; SHOCKED]) {
+    let (base, base_size) = valued(section, 0);
     for index in 0..SHOCKED {
-        let (value, size) = valued(holdings, currency, index + 1);
-        changes[index] = rounded(base - value) + holdings.add_ons[currency][index];
+        let (value, size) = valued(section, index + 1);
+        changes[index] = rounded(base - value) + section.add_ons[index];
         sums[index] += changes[index].max(0);
         tolerances[index] += tolerance(base_size + size);
     }
@@ -73,9 +67,9 @@ fn tolerance(size: i64) -> i64 {
 }
 
 /// A scenario's sum of flow times factor, and its sum of magnitudes of flows.
-fn valued(holdings: &Holdings, currency: usize, scenario: usize) -> (i64, i64) {
-    let flows = &holdings.flows[currency][scenario];
-    let rates = &holdings.rates[currency][scenario];
+fn valued(section: &Section, scenario: usize) -> (i64, i64) {
+    let flows = &section.flows[scenario];
+    let rates = &section.rates[scenario];
     let (mut value, mut size) = (0, 0);
     for bucket in 0..BUCKETS {
         value += flows[bucket] * factor(rates[bucket] * MIDPOINTS[bucket]);

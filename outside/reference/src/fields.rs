@@ -2,7 +2,7 @@
 //! 20), each told at its own place (02, request 2).
 
 use crate::curve::{is_curve, shocks};
-use crate::layout::{Field, Item, Kind, Record};
+use crate::layout::{Field, Item, Kind, Record, CURRENCIES};
 use crate::refusal::{demand, Fault};
 use crate::shock_lists::Code;
 use std::ops::RangeInclusive;
@@ -41,7 +41,7 @@ impl Item {
     /// The refusal number of a value out of range, and the range. Not all of it is good for a period, a count or a code.
     pub fn allowed(self) -> (u8, RangeInclusive<i64>) {
         match self {
-            Item::Currency => (3, 1..=8),
+            Item::Currency => (3, 1..=CURRENCIES as i64),
             Item::Side => (4, 1..=2),
             Item::Months => (5, 0..=LAST_MONTH),
             Item::Days => (5, 0..=30),

@@ -1,9 +1,9 @@
-//! The table of records (01, "Records"; 02, requests 1 and 5), said once: reading, writing, checks and the text form all
-//! follow it.
+//! The table of records (01, "Records"; 02, requests 1, 5 and 7), said once: reading, writing, checks and the text form
+//! all follow it.
 
 use crate::ladder::BUCKETS;
 
-pub const CURRENCIES: usize = 8;
+pub const CURRENCIES: usize = 32;
 /// The six scenarios; the base is scenario 0 and comes on top.
 pub const SCENARIOS: usize = 6;
 

@@ -2,8 +2,8 @@
 //! It shares no code and no table with the product: what comes from the series is worked out from the series, and the
 //! listed shocks stand as the Committee prints them.
 //!
-//! `Request::answer` is the product's one call; `Answer::fill` says what the rooms then hold; `irreport` is the
-//! report program; `Exact` has the exact changes and the exact measure.
+//! `Request::answer` is the product's call on a book; `Answer::fill` says what the rooms then hold; `widen` is its call on a
+//! stored report; `irreport` is the report program; `Exact` has the exact changes and the exact measure.
 
 mod answer;
 mod curve;
@@ -21,6 +21,7 @@ mod report;
 mod rounding;
 mod series;
 mod shock_lists;
+mod stored;
 mod walk;
 
 pub use answer::{Answer, Request, GREATEST_CAPITAL, LONGEST_BOOK};
@@ -36,4 +37,5 @@ pub use layout::{split, step, Field, Item, Kind, Record, Step, CURRENCIES, KINDS
 pub use refusal::Refusal;
 pub use report::{Return, Verdict, REPORT_CELLS};
 pub use shock_lists::{listed, listed_shocks, Code, Listed};
+pub use stored::{widen, STORED_CELLS, STORED_CURRENCIES};
 pub use walk::{cell, Positions, LEDGER_CELLS};

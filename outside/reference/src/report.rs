@@ -7,7 +7,12 @@ use crate::layout::{CURRENCIES, SCENARIOS};
 use crate::rounding::{halves_away, rounded_up};
 use crate::walk::Positions;
 
-pub const REPORT_CELLS: usize = CURRENCIES * SCENARIOS + SCENARIOS + 4;
+pub const REPORT_CELLS: usize = report_cells(CURRENCIES);
+
+/// The numbers of a report over so many currencies.
+pub const fn report_cells(currencies: usize) -> usize {
+    currencies * SCENARIOS + SCENARIOS + 4
+}
 
 const BILLION: i128 = 1_000_000_000;
 /// What a computed factor may be off, in billionths.
@@ -26,8 +31,9 @@ pub enum Verdict {
 #[derive(Clone, Debug)]
 pub struct Return {
     pub positions: Positions,
-    pub changes: [PerScenario; CURRENCIES],
-    pub tolerances: [PerScenario; CURRENCIES],
+    /// Currency by currency, and so are the tolerances.
+    pub changes: Vec<PerScenario>,
+    pub tolerances: Vec<PerScenario>,
     pub sums: PerScenario,
     pub measure: i64,
     pub worst: i64,
@@ -37,9 +43,17 @@ pub struct Return {
 
 impl Return {
     pub fn of(positions: Positions, capital: i64) -> Return {
-        let changes: [PerScenario; CURRENCIES] = std::array::from_fn(|currency| changes(&positions, currency));
-        let tolerances = std::array::from_fn(|currency| tolerances(&positions, currency));
-        let sums = over_currencies(&changes.map(|of_currency| of_currency.map(|change| change.max(0))));
+        Return::over(CURRENCIES, positions, capital)
+    }
+
+    /// The return over the first so many currencies, for positions that have no others: over 8, as it was made before
+    /// request 7 of 02.
+    pub fn over(currencies: usize, positions: Positions, capital: i64) -> Return {
+        assert!(positions.curved().all(|currency| currency < currencies), "a currency above {currencies}");
+        let changes: Vec<PerScenario> = (0..currencies).map(|currency| changes(&positions, currency)).collect();
+        let tolerances: Vec<PerScenario> = (0..currencies).map(|currency| tolerances(&positions, currency)).collect();
+        let losses = |of_currency: &PerScenario| of_currency.map(|change| change.max(0));
+        let sums = over_currencies(&changes.iter().map(losses).collect::<Vec<_>>());
         let measure = greatest(&sums);
         let total_tolerance = greatest(&over_currencies(&tolerances));
         Return {
@@ -54,7 +68,7 @@ impl Return {
         }
     }
 
-    /// The 58 numbers in their order.
+    /// The numbers in their order: 202, over all currencies.
     pub fn report(&self) -> Vec<i64> {
         let last = [self.measure, self.worst, self.total_tolerance, self.verdict as i64];
         [self.changes.as_flattened(), &self.sums, &last].concat()
@@ -89,7 +103,7 @@ fn tolerances(positions: &Positions, currency: usize) -> PerScenario {
     })
 }
 
-fn over_currencies(numbers: &[PerScenario; CURRENCIES]) -> PerScenario {
+fn over_currencies(numbers: &[PerScenario]) -> PerScenario {
     std::array::from_fn(|index| numbers.iter().map(|of_currency| of_currency[index]).sum())
 }
 

@@ -54,16 +54,26 @@ impl Positions {
     fn none() -> Positions {
         Positions {
             ledger: vec![0; LEDGER_CELLS],
-            curves: Default::default(),
-            add_ons: Default::default(),
-            used: Default::default(),
-            gross_flows: Default::default(),
-            gross_options: Default::default(),
+            curves: std::array::from_fn(|_| None),
+            add_ons: [[0; SCENARIOS]; CURRENCIES],
+            used: [false; CURRENCIES],
+            gross_flows: [[0; SCENARIOS + 1]; CURRENCIES],
+            gross_options: [[0; SCENARIOS]; CURRENCIES],
         }
     }
 
     pub fn net_flow(&self, currency: usize, scenario: usize, bucket: usize) -> i64 {
         self.ledger[cell(currency, scenario, bucket)]
+    }
+
+    /// The currencies with a curve, from 0. Of an accepted book these are all that it has: what is used has one.
+    pub fn curved(&self) -> impl Iterator<Item = usize> + '_ {
+        (0..CURRENCIES).filter(|currency| self.curves[*currency].is_some())
+    }
+
+    /// Whether every currency has a position.
+    pub fn uses_all(&self) -> bool {
+        self.used.iter().all(|used| *used)
     }
 
     fn take(&mut self, record: &Record) -> Result<(), Fault> {

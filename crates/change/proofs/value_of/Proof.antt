@@ -6,8 +6,8 @@ use native.Mathlib.Omega.{arith}
 use lib.IntN.{ℤ, pos, _+ℤ_, _*ℤ_}
 use lib.ListN.{length, getD}
 use lib.Signed.{mag}
-use mir.Syntax.{w64}
-use mir.Val.{SFits, toZ, ofZ}
+use mir.Syntax.{Width, w32, w64}
+use mir.Val.{SFits, hbits, toZ, ofZ}
 use mir.Facts.{toZ-ofZ, toZ-pos}
 use borrow.Author.Needs.{needs}
 use Rattle.laws.specs.Sums.{sumℤ}
@@ -41,9 +41,9 @@ module _ (c : tie.At-loop Inv-loop μ-loop) where
   i = start .args .scenario
 
   -- an element of this turn that was read, of the cells or of the rates
-  read-is : (part : List ℤ) → mag (getD part (buckets * i + c .loop .k) (pos 0)) < 2 ^ 63
-      → toZ w64 (ofZ w64 (getD part (buckets * i + c .loop .k) (pos 0))) ≡ cellBy part 1 i (c .loop .k)
-  read-is part h = back w64 (getD part (buckets * i + c .loop .k) (pos 0)) h ∙ sym (part-cell part i (c .loop .k))
+  read-is : (w : Width) (part : List ℤ) → mag (getD part (buckets * i + c .loop .k) (pos 0)) < 2 ^ hbits w
+      → toZ w (ofZ w (getD part (buckets * i + c .loop .k) (pos 0))) ≡ cellBy part 1 i (c .loop .k)
+  read-is w part h = back w (getD part (buckets * i + c .loop .k) (pos 0)) h ∙ sym (part-cell part i (c .loop .k))
 
 -- the rate and the midpoint of this turn
 module _ (c : tie.After-of Inv-loop μ-loop) where
@@ -56,8 +56,12 @@ module _ (c : tie.After-of Inv-loop μ-loop) where
   years-are : c .of .result .0 ≡ pos (midpoint k)
   years-are = c .of .ensures ∙ ap (λ (l : List ℕ). pos (getD l k 0)) (start head .pre .1 .1 .0)
 
-  rate-is : toZ w64 (ofZ w64 (getD (start head .args .rates .now) (buckets * i head + k) (pos 0))) ≡ row head .rate 1 (i head) k
-  rate-is = read-is head (start head .args .rates .now) (c .before .before .sum .given)
+  -- read in 32 bits, and then in 64
+  rate-is : toZ w64 (ofZ w64 (toZ w32 (ofZ w32 (getD (start head .args .rates .now) (buckets * i head + k) (pos 0))))) ≡ row head .rate 1 (i head) k
+  rate-is =
+      let rate = getD (start head .args .rates .now) (buckets * i head + k) (pos 0) in
+      let narrow : mag rate < 2 ^ 31 = c .before .before .sum .given in
+      ap (λ (z : ℤ). toZ w64 (ofZ w64 z)) (back w32 rate narrow) ∙ read-is head w64 (start head .args .rates .now) (omega (arith, narrow))
 
 -- the product of this turn, and the sum with it
 module _ (c : tie.After-factor Inv-loop μ-loop) where
@@ -77,7 +81,7 @@ module _ (c : tie.After-factor Inv-loop μ-loop) where
 
   product-is : toZ w64 (ofZ w64 (getD (start h .args .cells .now) (buckets * i h + k o) (pos 0))) *ℤ toZ w64 (c .factor .result) ≡ weighed (row h) 1 (i h) (k o)
   product-is =
-      ap₂ _*ℤ_ (read-is h (start h .args .cells .now) (c .before .sum2 .given)) (toZ-pos w64 {n = c .factor .result} (factor-fits .sfits) ∙ ap pos factor-is)
+      ap₂ _*ℤ_ (read-is h w64 (start h .args .cells .now) (c .before .sum2 .given)) (toZ-pos w64 {n = c .factor .result} (factor-fits .sfits) ∙ ap pos factor-is)
 
   product-fits : SFits w64 (weighed (row h) 1 (i h) (k o))
   product-fits = weighed-fits (row h) 1 (i h) (start h .pre .1 .0 .net) (k o) (c .before .before .before .before .before .before .loop-test .taken)
@@ -103,6 +107,9 @@ mul-sum c = search needs
 
 shared-slice-copy-out-sum : tie.Need-shared-slice-copy-out-sum Inv-loop μ-loop
 shared-slice-copy-out-sum c = search needs
+
+cast-sum : tie.Need-cast-sum Inv-loop μ-loop
+cast-sum c = rw (back w32 _ (c .sum .given)) (record { sfits = omega (arith, c .sum .given) })
 
 mul-of : tie.Need-mul-of Inv-loop μ-loop
 mul-of c = search needs
@@ -133,8 +140,8 @@ factor-requires : tie.Need-factor-requires Inv-loop μ-loop
 factor-requires c κs =
     (c .before .before .before .before .before .before .before .before .pre .1 .1 .1, c .before .of2 .ensures .reach)
 
-cast-sum : tie.Need-cast-sum Inv-loop μ-loop
-cast-sum c = factor-fits c
+cast-sum-2 : tie.Need-cast-sum-2 Inv-loop μ-loop
+cast-sum-2 c = factor-fits c
 
 mul-sum-3 : tie.Need-mul-sum-3 Inv-loop μ-loop
 mul-sum-3 c = rw (product-is c) (product-fits c)
@@ -168,6 +175,7 @@ value-of-spec =
     add-sum
     mul-sum
     shared-slice-copy-out-sum
+    cast-sum
     mul-of
     shared-slice-read-of
     of-requires
@@ -176,7 +184,7 @@ value-of-spec =
     mul-sum-2
     shared-slice-copy-out-sum-2
     factor-requires
-    cast-sum
+    cast-sum-2
     mul-sum-3
     add-sum-3
     add-k

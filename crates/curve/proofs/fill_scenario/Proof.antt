@@ -1,12 +1,14 @@
 -- `fill_scenario` meets its contract: the rates up to k are written.
 use Prim.Native.Nat.{_-_, _≤_}
-use mathlib.Core.Path.{_≡_, _∙_}
+use mathlib.Core.Path.{_≡_, ap, _∙_}
 use native.Mathlib.Omega.{arith}
 use borrow.Author.Needs.{needs}
-use lib.IntN.{pos}
+use lib.IntN.{ℤ, pos}
 use lib.ListN.{length}
-use mir.Syntax.{w64}
-use Rattle.laws.proofs.Widths.{back}
+use mir.Syntax.{w32, w64}
+use mir.Val.{SFits, toZ, ofZ}
+use mir.Facts.{toZ-ofZ}
+use Rattle.laws.proofs.Widths.{back, sfits-abs}
 use Rattle.laws.proofs.Filling.{Filled, filled-none, filled-next, filled-all}
 use Rattle.paper.specs.Ladder.{buckets}
 use Rattle.paper.specs.Curve.{shockedRate}
@@ -32,6 +34,20 @@ shocked-requires c κs =
     let s = c .before .before .before in
     (s .before .pre .0, (s .before .pre .1 .0, (s .short-shares .ensures, c .before .loop-test .taken)))
 
+-- what was worked out in 64 bits is what stands in 32
+module _ (c : tie.After-struct-told Inv-loop μ-loop) where
+  abbrev rate : ℤ
+  rate = c .before .before .shocked .result .0
+
+  in-64 : toZ w64 (ofZ w64 rate) ≡ rate
+  in-64 = back w64 rate (c .struct-told .given .0 .1)
+
+  in-32 : SFits w32 rate
+  in-32 = sfits-abs rate (omega (arith, c .before .before .shocked .ensures .1))
+
+cast-cell : tie.Need-cast-cell Inv-loop μ-loop
+cast-cell c = rw (in-64 c) (in-32 c)
+
 mul-cell : tie.Need-mul-cell Inv-loop μ-loop
 mul-cell c = search needs
 
@@ -46,9 +62,9 @@ loop-less c = search needs
 
 loop-again : tie.Need-loop-again Inv-loop μ-loop
 loop-again c =
-    let at = c .before .before .before .before .loop in
-    let stored = c .before .shocked in
-    (search needs, search needs, filled-next (pos 0) _ (at .part) (at .k) _ (at .inv .2) (back w64 (stored .result .0) (c .struct-told .given .0 .1) ∙ stored .ensures) (search needs))
+    let at = c .before .before .before .before .before .loop in
+    let stored = c .before .before .shocked in
+    (search needs, search needs, filled-next (pos 0) _ (at .part) (at .k) _ (at .inv .2) (ap (λ (z : ℤ). toZ w32 (ofZ w32 z)) (in-64 c) ∙ toZ-ofZ (in-32 c) ∙ stored .ensures .0) (search needs))
 
 same-length : tie.Need-same-length Inv-loop μ-loop
 same-length c = search needs
@@ -65,6 +81,7 @@ fill-scenario-spec =
     short-shares-requires
     loop-holds
     shocked-requires
+    cast-cell
     mul-cell
     slice-set-from-cell
     add-k

@@ -41,7 +41,7 @@ module _ (c : tie.After-struct-told Inv-loop μ-loop) where
   tested : {b : Bool} → badRate (c .before .before .shocked .result .0) ≡ b
       → badRate (shockedRate curve (c .before .before .before .before .loop .scenario) (c .before .before .before .before .before .args .k)) ≡ b
   unfolding curve
-  tested e = ap badRate (sym (c .before .before .shocked .ensures)) ∙ e
+  tested e = ap badRate (sym (c .before .before .shocked .ensures .0)) ∙ e
 
   hit : badRate (c .before .before .shocked .result .0) ≡ true → true ≡ badShocked curve (c .before .before .before .before .before .args .k)
   hit e = one-bad _ _ _ (c .before .before .before .before .loop .inv .0) (c .before .before .before .loop-test .taken) (tested e)

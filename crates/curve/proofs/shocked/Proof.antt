@@ -1,8 +1,9 @@
 -- `shocked` meets its contract: a rate in range and a change fit together.
+use Prim.Native.Nat.{_≤_}
 use mathlib.Core.Path.{_≡_, ap}
 use native.Mathlib.Omega.{arith}
 use borrow.Author.Needs.{needs}
-use lib.IntN.{ℤ, pos, _+ℤ_}
+use lib.IntN.{ℤ, pos, natAbs, _+ℤ_}
 use lib.ListN.{getD}
 use mir.Facts.{toZ-ofZ}
 use mir.Syntax.{w64}
@@ -49,17 +50,19 @@ module _ (c : tie.After-struct-told2) where
   moved-is : toZ w64 (ofZ w64 moved) ≡ moved
   moved-is = back w64 moved (c .struct-told2 .given .0 .1)
 
+  most : natAbs (base +ℤ moved) ≤ 550000
+  most =
+      let ranged = s .pre .0 .at (pos 0) (s .args .k) (s .pre .1 .1 .1) in
+      omega (arith, abs-add base moved, abs-is base, ranged .low, ranged .high, c .before .before .before .before .change .ensures .1)
+
 add-t10 : tie.Need-add-t10
-add-t10 c =
-    let ranged = s c .pre .0 .at (pos 0) (s c .args .k) (s c .pre .1 .1 .1) in
-    rw (base-is c, moved-is c)
-    (sfits-abs _ (omega (arith, abs-add (base c) (moved c), abs-is (base c), ranged .low, ranged .high, c .before .before .before .before .change .ensures .1)))
+add-t10 c = rw (base-is c, moved-is c) (sfits-abs _ (omega (arith, most c)))
 
 returns : tie.Need-returns
 unfolding shockedRate
 returns c =
     rw (toZ-ofZ (add-t10 c), base-is c, moved-is c)
-    (ap (λ (x : ℤ). base c +ℤ x) (rw (share-is (c .before .before .before .before .before .before)) at (c .before .before .before .before .change .ensures .0)))
+    (ap (λ (x : ℤ). base c +ℤ x) (rw (share-is (c .before .before .before .before .before .before)) at (c .before .before .before .before .change .ensures .0)), most c)
 
 pub shocked-spec : {M : Type 1} → statement M
 shocked-spec =

@@ -40,7 +40,7 @@ fn each_rule_has_its_number_and_its_place() {
         told(&flow.bytes(), 1),
         told(&[], 0),
         told(&vec![0; 65_529], 1),
-        Request { report_room: 57, ..Request::roomy(&[], 1) }.answer().refused(),
+        Request { report_room: 201, ..Request::roomy(&[], 1) }.answer().refused(),
         earned(&[curve.clone(), listed.with("edition", 0, 3)]),
         earned(&[curve, listed.with("code", 0, code_number("eur"))]),
     ];

@@ -10,3 +10,4 @@ mod rooms;
 mod rounding;
 mod rules;
 mod running;
+mod stored;

@@ -32,7 +32,7 @@ fn single_flow_in_turn() {
 #[test]
 fn fixed_coupons_in_turn() {
     assert_turn(vec![
-        (fixed_coupons(9, 3, 2, 601, BAD, BAD), Some((3, 1))),
+        (fixed_coupons(33, 3, 2, 601, BAD, BAD), Some((3, 1))),
         (fixed_coupons(1, 3, 2, 601, BAD, BAD), Some((4, 2))),
         (fixed_coupons(1, 2, 2, 601, BAD, BAD), Some((5, 3))),
         (fixed_coupons(1, 2, 12, 51, BAD, BAD), Some((5, 4))),
@@ -46,7 +46,7 @@ fn fixed_coupons_in_turn() {
 #[test]
 fn floating_in_turn() {
     assert_turn(vec![
-        (floating(9, 3, 601, 31, BAD, BAD), Some((3, 1))),
+        (floating(33, 3, 601, 31, BAD, BAD), Some((3, 1))),
         (floating(1, 3, 601, 31, BAD, BAD), Some((4, 2))),
         (floating(1, 2, 601, 31, BAD, BAD), Some((5, 3))),
         (floating(1, 2, 600, 31, BAD, BAD), Some((5, 5))),
@@ -60,8 +60,8 @@ fn floating_in_turn() {
 #[test]
 fn floating_spread_in_turn() {
     assert_turn(vec![
-        (floating_spread(floating(9, 3, 601, 31, BAD, BAD), 2, 0, BAD)[..20].to_vec(), Some((2, 0))),
-        (floating_spread(floating(9, 3, 601, 31, BAD, BAD), 2, 0, BAD), Some((3, 1))),
+        (floating_spread(floating(33, 3, 601, 31, BAD, BAD), 2, 0, BAD)[..20].to_vec(), Some((2, 0))),
+        (floating_spread(floating(33, 3, 601, 31, BAD, BAD), 2, 0, BAD), Some((3, 1))),
         (floating_spread(floating(1, 3, 601, 31, BAD, BAD), 2, 0, BAD), Some((4, 2))),
         (floating_spread(floating(1, 2, 601, 31, BAD, BAD), 2, 0, BAD), Some((5, 3))),
         (floating_spread(floating(1, 2, 588, 31, BAD, BAD), 2, 0, BAD), Some((5, 5))),
@@ -78,7 +78,7 @@ fn floating_spread_in_turn() {
 #[test]
 fn non_maturity_deposit_in_turn() {
     assert_turn(vec![
-        (deposit(9, 4, BAD, BAD_LADDER), Some((3, 1))),
+        (deposit(33, 4, BAD, BAD_LADDER), Some((3, 1))),
         (deposit(1, 4, BAD, BAD_LADDER), Some((8, 2))),
         (deposit(1, 1, BAD, NIL), Some((6, 3))),
         (deposit(1, 1, 100, in_buckets(&[(19, BAD)])), Some((6, 7 + 4 * 18))),
@@ -96,7 +96,7 @@ fn non_maturity_deposit_in_turn() {
 fn prepayable_loan_in_turn() {
     let billions = [BILLION; 19];
     assert_turn(vec![
-        (loan(9, 10_001, BAD_LADDER, BAD_LADDER), Some((3, 1))),
+        (loan(33, 10_001, BAD_LADDER, BAD_LADDER), Some((3, 1))),
         (loan(1, 10_001, BAD_LADDER, BAD_LADDER), Some((7, 2))),
         (loan(1, 10_000, in_buckets(&[(19, BAD)]), NIL), Some((6, 4 + 4 * 18))),
         (loan(1, 10_000, NIL, in_buckets(&[(19, BAD)])), Some((6, 80 + 4 * 18))),
@@ -109,11 +109,11 @@ fn prepayable_loan_in_turn() {
 #[test]
 fn term_deposit_and_add_on_in_turn() {
     assert_turn(vec![
-        (term_deposit(9, 10_001, BAD_LADDER), Some((3, 1))),
+        (term_deposit(33, 10_001, BAD_LADDER), Some((3, 1))),
         (term_deposit(1, 10_001, BAD_LADDER), Some((7, 2))),
         (term_deposit(1, 10_000, in_buckets(&[(1, BILLION), (19, BAD)])), Some((6, 4 + 4 * 18))),
         (term_deposit(1, 10_000, in_buckets(&[(1, BILLION), (19, 1)])), Some((14, 0))),
-        (options(9, 3, [i32::MIN; 6]), Some((3, 1))),
+        (options(33, 3, [i32::MIN; 6]), Some((3, 1))),
         (options(1, 3, [i32::MIN; 6]), Some((4, 2))),
         (options(1, 2, [i32::MIN; 6]), Some((6, 3))),
         (options(1, 2, [0, 0, 0, 0, 0, i32::MIN]), Some((6, 3 + 4 * 5))),
@@ -124,7 +124,7 @@ fn term_deposit_and_add_on_in_turn() {
 #[test]
 fn curve_in_turn() {
     assert_turn(vec![
-        (curve(9, [300_001; 19], [1_001; 3]), Some((3, 1))),
+        (curve(33, [300_001; 19], [1_001; 3]), Some((3, 1))),
         (curve(1, [300_001; 19], [1_001; 3]), Some((12, 0))),
         (curve(2, [300_001; 19], [1_001; 3]), Some((13, 2))),
         (curve(2, [300_000; 19], [1_001; 3]), Some((13, 78))),
@@ -138,8 +138,8 @@ fn curve_in_turn() {
 fn listed_curve_in_turn() {
     let last = |first, last| std::array::from_fn(|bucket| if bucket == 18 { last } else { first });
     assert_turn(vec![
-        (listed_curve(9, 3, b"eur", [300_001; 19])[..81].to_vec(), Some((2, 0))),
-        (listed_curve(9, 3, b"eur", [300_001; 19]), Some((3, 1))),
+        (listed_curve(33, 3, b"eur", [300_001; 19])[..81].to_vec(), Some((2, 0))),
+        (listed_curve(33, 3, b"eur", [300_001; 19]), Some((3, 1))),
         (listed_curve(1, 3, b"eur", [300_001; 19]), Some((12, 0))),
         (listed_curve(2, 3, b"eur", [300_001; 19]), Some((19, 0))),
         (listed_curve(2, 2, b"eur", [300_001; 19]), Some((20, 0))),
@@ -156,12 +156,12 @@ fn rooms_then_length_then_capital_then_records() {
     let long = vec![0; 65_529];
     let request = |report_room, ledger_room, book, capital| Request { book, capital, report_room, ledger_room };
     let refused = |request: Request| request.answer().refused();
-    assert_eq!(refused(request(57, 1_064, &long, 0)), Some((18, 0)));
-    assert_eq!(refused(request(58, 1_063, &long, 0)), Some((18, 0)));
-    assert_eq!(refused(request(58, 1_064, &long, 0)), Some((17, 0)));
-    assert_eq!(refused(request(58, 1_064, &long[..65_528], 0)), Some((16, 0)));
-    assert_eq!(refused(request(58, 1_064, &long[..65_528], 1)), Some((1, 0)));
-    assert_eq!(refused(request(58, 1_064, &[], 1)), None);
+    assert_eq!(refused(request(201, 4_256, &long, 0)), Some((18, 0)));
+    assert_eq!(refused(request(202, 4_255, &long, 0)), Some((18, 0)));
+    assert_eq!(refused(request(202, 4_256, &long, 0)), Some((17, 0)));
+    assert_eq!(refused(request(202, 4_256, &long[..65_528], 0)), Some((16, 0)));
+    assert_eq!(refused(request(202, 4_256, &long[..65_528], 1)), Some((1, 0)));
+    assert_eq!(refused(request(202, 4_256, &[], 1)), None);
 }
 
 #[test]

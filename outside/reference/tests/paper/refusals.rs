@@ -62,13 +62,13 @@ fn number_2_body_cut_short() {
 fn number_3_bad_currency() {
     for record in one_of_each() {
         let in_currency = |currency: u8| [&record[..1], &[currency], &record[2..]].concat();
-        for bad in [0, 9, 255] {
+        for bad in [0].into_iter().chain(33..=255) {
             assert_out(3, 1, [in_currency(bad)]);
         }
-        for good in 1..=8 {
+        for good in 1..=32 {
             let mut book = vec![in_currency(good)];
             let is_curve = [8, 10].contains(&record[0]);
-            (1..=8).filter(|other| !is_curve || *other != good).for_each(|other| book.push(flat_curve(other, 0)));
+            (1..=32).filter(|other| !is_curve || *other != good).for_each(|other| book.push(flat_curve(other, 0)));
             assert_eq!(refused(&book), None);
         }
     }
@@ -217,8 +217,13 @@ fn number_11_interest_without_principal() {
 
 #[test]
 fn number_12_second_curve() {
-    assert_in([flat_curve(2, 0), flat_curve(8, 0)]);
+    assert_in((2..=32).map(|currency| flat_curve(currency, 0)));
     assert_out(12, 0, [flat_curve(1, 0), flat_curve(1, 5), flat_curve(1, 300_001)]);
+    let every_curve: Vec<Vec<u8>> = (1..=32).map(|currency| flat_curve(currency, 0)).collect();
+    assert_eq!(refused(&every_curve), None);
+    for second in 1..=32 {
+        assert_eq!(refused(&[every_curve.concat(), flat_curve(second, 0)]), Some((12, 32 * 84)), "currency {second}");
+    }
 }
 
 #[test]

@@ -124,8 +124,8 @@ fn the_smallest_scenario_is_the_worst_and_add_ons_alone_count() {
 
 #[test]
 fn curves_alone_print_lines_of_zeros_in_order() {
-    let expected = "C 2 0 0 0 0 0 0\nC 7 0 0 0 0 0 0\nS 0 0 0 0 0 0\nM 0 0 0\nV WITHIN\n";
-    assert_eq!(irreport(&input(&[flat_curve(7, 9), flat_curve(2, -9)])), expected);
+    let expected = "C 2 0 0 0 0 0 0\nC 10 0 0 0 0 0 0\nC 32 0 0 0 0 0 0\nS 0 0 0 0 0 0\nM 0 0 0\nV WITHIN\n";
+    assert_eq!(irreport(&input(&[flat_curve(32, 9), flat_curve(10, 9), flat_curve(2, -9)])), expected);
 }
 
 /// Base -1 per cent, up to 3, down to -5: factors E(0.25), 1 / E(0.75) and E(1.25) in bucket 19.

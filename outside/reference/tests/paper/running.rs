@@ -86,9 +86,12 @@ fn totals_are_by_currency_and_before_netting() {
 #[test]
 fn number_15_names_the_lowest_currency() {
     let flow = |currency| single_flow(currency, 1, 0, 0, 0);
-    assert_eq!(refused(&[flow(8)]), Some((15, 8)));
+    assert_eq!(refused(&[flow(32)]), Some((15, 32)));
+    assert_eq!(refused(&[flow(32), flow(31)]), Some((15, 31)));
     assert_eq!(refused(&[flow(7), flow(3), flat_curve(7, 0), flow(5)]), Some((15, 3)));
     assert_eq!(refused(&[flow(3), flat_curve(3, 0)]), None, "a curve may follow");
+    let all_but_the_last: Vec<u8> = (1..=31).flat_map(|currency| flat_curve(currency, 0)).collect();
+    assert_eq!(refused(&[all_but_the_last, flow(32)]), Some((15, 32)));
     assert_eq!(refused(&[options(4, 2, [0; 6])]), Some((15, 4)), "add-ons of nil use a currency too");
     assert_eq!(refused(&[flat_curve(4, 0)]), None, "a curve alone uses nothing");
 }

@@ -27,7 +27,7 @@ use types.Run.{look, store, init, forget, stop, hop, fld, from, load, lit, addr,
 use types.Run.{loops, again, Below, returns-within, enter, params1, pass1, pass0}
 use sound.WpLaws.{FmC, fmOf, WpFn-mono}
 use denote.Laws.{Is, Are, Ises}
-use denote.Builtin.{u8, i64, u64}
+use denote.Builtin.{u8, i32, i64, u64}
 use denote.Ref.{RefT, now}
 use denote.RattleType.{flat}
 use denote.Signature.{Slot, plain, typesAt}
@@ -77,9 +77,10 @@ use Rattle.load.proofs.walk.walk.Code.Mir as mir-code
 abbrev at-exit : Stays (walk.ended .signature .params) (walk.ended .kept)
 at-exit =
     let signed : Slot 6 = plain (λ _. i64) in
+    let narrow : Slot 6 = plain (λ _. i32) in
     let counts : Slot 6 = plain (λ _. u64) in (
       stay-none-slice (0 ∷ []) tt (plain (λ _. u8)) yes,
-      (stays (1 ∷ []) tt signed, (stays (2 ∷ []) tt signed, (stays (3 ∷ []) tt signed, (stays (4 ∷ []) tt counts, (stays (5 ∷ []) tt counts, tt))))),
+      (stays (1 ∷ []) tt signed, (stays (2 ∷ []) tt narrow, (stays (3 ∷ []) tt signed, (stays (4 ∷ []) tt counts, (stays (5 ∷ []) tt counts, tt))))),
     )
 
 module _ {M : Type 1} (𝓤 : URA M) (H : Heap 𝓤) (A : Atoms 𝓤) (W : Given 𝓤 H A) (mem : Memory → SProp 𝓤) (run : Routine → Fun 𝓤) where
@@ -234,7 +235,7 @@ module _ {M : Type 1} (𝓤 : URA M) (H : Heap 𝓤) (A : Atoms 𝓤) (W : Given
           qed W (raw Entry ∷ []) ∵ enter ! (𝓣 .C) (𝓣 .Λ) code.function (flat (typesAt (walk.signature .params) κs) passed) _ $
           alloc-all 𝓤 H A W ! (code.function .locals) (λ bs. params1 ! $ pass1 ! (init ! 50 refl book-typed) $
           pass1 ! (init ! 48 refl (mut-slice-lawful 𝓤 H A W (named 1) (κs .1 .0) i64 .typed (a .1 .0) _ (are .1 .0) .0)) $
-          pass1 ! (init ! 46 refl (mut-slice-lawful 𝓤 H A W (named 2) (κs .1 .1 .0) i64 .typed (a .1 .1 .0) _ (are .1 .1 .0) .0)) $
+          pass1 ! (init ! 46 refl (mut-slice-lawful 𝓤 H A W (named 2) (κs .1 .1 .0) i32 .typed (a .1 .1 .0) _ (are .1 .1 .0) .0)) $
           pass1 ! (init ! 44 refl (mut-slice-lawful 𝓤 H A W (named 3) (κs .1 .1 .1 .0) i64 .typed (a .1 .1 .1 .0) _ (are .1 .1 .1 .0) .0)) $
           pass1 ! (init ! 42 refl (mut-slice-lawful 𝓤 H A W (named 4) (κs .1 .1 .1 .1 .0) u64 .typed (a .1 .1 .1 .1 .0) _ (are .1 .1 .1 .1 .0) .0)) $
           pass1 ! (init ! 40 refl (mut-slice-lawful 𝓤 H A W (named 5) (κs .1 .1 .1 .1 .1 .0) u64 .typed (a .1 .1 .1 .1 .1 .0) _ (are .1 .1 .1 .1 .1 .0) .0)) $
@@ -258,7 +259,7 @@ module _ {M : Type 1} (𝓤 : URA M) (H : Heap 𝓤) (A : Atoms 𝓤) (W : Given
           (
             mut-slice-tells (named 1) (κs .1 .0) i64,
             (
-              mut-slice-tells (named 2) (κs .1 .1 .0) i64,
+              mut-slice-tells (named 2) (κs .1 .1 .0) i32,
               (mut-slice-tells (named 3) (κs .1 .1 .1 .0) i64, (mut-slice-tells (named 4) (κs .1 .1 .1 .1 .0) u64, (mut-slice-tells (named 5) (κs .1 .1 .1 .1 .1 .0) u64, tt))),
             ),
           ),
@@ -272,7 +273,7 @@ module _ {M : Type 1} (𝓤 : URA M) (H : Heap 𝓤) (A : Atoms 𝓤) (W : Given
           (
             goes-slice 𝓤 H A W 6 1 tt (plain (λ _. i64)),
             (
-              goes-slice 𝓤 H A W 6 2 tt (plain (λ _. i64)),
+              goes-slice 𝓤 H A W 6 2 tt (plain (λ _. i32)),
               (
                 goes-slice 𝓤 H A W 6 3 tt (plain (λ _. i64)),
                 (

@@ -1,9 +1,10 @@
 -- The lines of the currencies before this one have been written.
-use Prim.Native.Nat.{_≤_, _-_}
+use Prim.Native.Nat.{suc, _≤_, _-_}
 use mathlib.Core.Path.{_≡_, refl}
 use native.Mathlib.Omega.{arith}
 use borrow.Author.Needs.{needs}
 use lib.ListN.{length}
+use Rattle.paper.specs.Records.{currencies}
 use Rattle.paper.specs.Program.{changesLines}
 use Rattle.arrays.specs.Masks.{curvedBy}
 use Rattle.text.specs.Written.{Wrote}
@@ -14,10 +15,10 @@ use Rattle.text.proofs.report.put_all_changes.Tie as tie
 
 abbrev Inv-loop : tie.InvT-loop
 Inv-loop out₀ report curved next₀ currency₀ out next currency =
-    (1 ≤ currency) × (currency ≤ 9) × (length out ≡ length out₀) × Wrote (changesLines (curvedBy curved) report (currency - 1)) 0 out₀ next out
+    (1 ≤ currency) × (currency ≤ suc currencies) × (length out ≡ length out₀) × Wrote (changesLines (curvedBy curved) report (currency - 1)) 0 out₀ next out
 
 abbrev μ-loop : tie.MeasureT-loop
-μ-loop out₀ report curved next₀ currency₀ out next currency = 9 - currency
+μ-loop out₀ report curved next₀ currency₀ out next currency = suc currencies - currency
 
 loop-holds : tie.Need-loop-holds Inv-loop μ-loop
 unfolding changesLines
@@ -54,7 +55,7 @@ same-length c = search needs
 returns : tie.Need-returns Inv-loop μ-loop
 returns c =
     let loop = c .before .loop in
-    let all : loop .currency - 1 ≡ 8 = omega arith in
+    let all : loop .currency - 1 ≡ currencies = omega arith in
     rw all at (loop .inv .3)
 
 pub put-all-changes-spec : {M : Type 1} → statement M

@@ -1,4 +1,5 @@
--- The lines one after the other. Eight C lines are 1248 bytes at most, S 134, M 68 and V 9.
+-- The lines one after the other. A C line is 156 bytes at most, S 134, M 68 and V 9.
+use Prim.Native.Nat.{_*_}
 use native.Mathlib.Omega.{arith}
 use borrow.Author.Needs.{needs}
 use lib.IntN.{pos}
@@ -6,6 +7,8 @@ use lib.ListN.{getD}
 use mir.Syntax.{w64}
 use Rattle.laws.specs.Lists.{tabulateFrom}
 use Rattle.laws.proofs.Widths.{back}
+use Rattle.paper.specs.Records.{currencies}
+use Rattle.paper.specs.Verdict.{measureAt, verdictAt}
 use Rattle.paper.specs.Program.{reportText}
 use Rattle.arrays.specs.Masks.{curvedBy}
 use Rattle.text.proofs.Writing.{wrote-then, wrote-first}
@@ -64,12 +67,12 @@ unfolding reportText tabulateFrom
 returns c =
     let s = c .before .before .before .before .before .before .before .before .before .before .before .before .before .before .before .before .before .before .before .before in
     let report = s .args .report .now in
-    let sums = rw (side-by-side report 48 6 (omega arith)) at (c .before .before .before .before .before .before .before .before .before .before .before .before .put-line .ensures) in
-    let measures = rw (side-by-side report 54 3 (omega arith)) at (c .before .before .before .before .before .before .before .put-line2 .ensures) in
-    let word = rw (back w64 (getD report 57 (pos 0)) (c .before .before .before .put-verdict-arg2 .given)) at (c .before .before .put-verdict .ensures) in
+    let sums = rw (side-by-side report (6 * currencies) 6 (omega arith)) at (c .before .before .before .before .before .before .before .before .before .before .before .before .put-line .ensures) in
+    let measures = rw (side-by-side report (measureAt currencies) 3 (omega arith)) at (c .before .before .before .before .before .before .before .put-line2 .ensures) in
+    let word = rw (back w64 (getD report (verdictAt currencies) (pos 0)) (c .before .before .before .put-verdict-arg2 .given)) at (c .before .before .put-verdict .ensures) in
     let lengths = line-lengths (curvedBy (s .args .curved)) report (s .pre .0) in
     let whole = wrote-first (wrote-then (wrote-then (wrote-then (c .before .before .before .before .before .before .before .before .before .before .before .before .before .before .before .before .before .put-all-changes .ensures) sums) measures) word) in
-    ((whole .0, omega (arith, verdict-length (getD report 57 (pos 0)), word .next-is)), whole .1)
+    ((whole .0, omega (arith, verdict-length (getD report (verdictAt currencies) (pos 0)), word .next-is)), whole .1)
 
 pub write-report-spec : {M : Type 1} → statement M
 write-report-spec =

@@ -17,17 +17,17 @@ greatest-sum-requires c κs = search needs
 greatest-sum-requires-2 : tie.Need-greatest-sum-requires-2
 greatest-sum-requires-2 c κs = search needs
 
-sub-write-changes : tie.Need-sub-write-changes
-sub-write-changes c = search needs
+sub-copy : tie.Need-sub-copy
+sub-copy c = search needs
 
-part-write-changes-start : tie.Need-part-write-changes-start
-part-write-changes-start c = search needs
+part-copy-start : tie.Need-part-copy-start
+part-copy-start c = search needs
 
-part-write-changes-end : tie.Need-part-write-changes-end
-part-write-changes-end c = search needs
+part-copy-end : tie.Need-part-copy-end
+part-copy-end c = search needs
 
-write-changes-requires : tie.Need-write-changes-requires
-write-changes-requires c κs = search needs
+copy-requires : tie.Need-copy-requires
+copy-requires c κs = search needs
 
 sub-write-sums : tie.Need-sub-write-sums
 sub-write-sums c = search needs
@@ -68,7 +68,7 @@ returns c =
     let s = b .before .before in
     report-written (s .args .report .now) (s .args .changes .now) (b .greatest-sum2 .result .sum .0) (s .args .tier1 .0) (worst .result .sum .0) (worst .result .scenario)
     (s .pre .1 .1) (s .pre .0 .0 .long)
-    (c .before .before .before .before .before .before .before .write-changes .ensures)
+    (c .before .before .before .before .before .before .before .copy .ensures)
     (c .before .before .before .before .write-sums .ensures)
     (c .before .write-closing .ensures)
     (worst .ensures .0) (worst .ensures .1)
@@ -80,10 +80,10 @@ write-report-spec =
     (tie.spec
     greatest-sum-requires
     greatest-sum-requires-2
-    sub-write-changes
-    part-write-changes-start
-    part-write-changes-end
-    write-changes-requires
+    sub-copy
+    part-copy-start
+    part-copy-end
+    copy-requires
     sub-write-sums
     part-write-sums-start
     part-write-sums-end

@@ -17,11 +17,11 @@ use Rattle.valuation.proofs.report.write_sums.Statement.{statement}
 use Rattle.valuation.proofs.report.write_sums.Tie as tie
 
 abbrev Inv-loop : tie.InvT-loop
-Inv-loop changes room₀ i₀ room i =
+Inv-loop changes last room₀ i₀ room i =
     (i ≤ shocked) × (length room ≡ shocked) × Filled (pos 0) i (λ j. pos (scenarioSum currencies (listed changes) (j + 1))) room
 
 abbrev μ-loop : tie.MeasureT-loop
-μ-loop changes room₀ i₀ room i = shocked - i
+μ-loop changes last room₀ i₀ room i = shocked - i
 
 loop-holds : tie.Need-loop-holds Inv-loop μ-loop
 loop-holds c = (search needs, search needs, filled-none (pos 0) _ (c .args .room .now))
@@ -37,8 +37,8 @@ cast-room c =
     let at = c .before .before .before in
     record { sfits = omega (arith, c .before .scenario-sum .ensures, scenario-sum-most (at .before .pre .1) (at .loop .i + 1)) }
 
-mul-t8 : tie.Need-mul-t8 Inv-loop μ-loop
-mul-t8 c = search needs
+mul-t9 : tie.Need-mul-t9 Inv-loop μ-loop
+mul-t9 c = search needs
 
 slice-set-from-room : tie.Need-slice-set-from-room Inv-loop μ-loop
 slice-set-from-room c = search needs
@@ -71,7 +71,7 @@ write-sums-spec =
     add-scenario-sum
     scenario-sum-requires
     cast-room
-    mul-t8
+    mul-t9
     slice-set-from-room
     add-i
     loop-less

@@ -13,10 +13,10 @@ use Rattle.verdict.proofs.measure.greatest_sum.Statement.{statement}
 use Rattle.verdict.proofs.measure.greatest_sum.Tie as tie
 
 abbrev Inv-loop : tie.InvT-loop
-Inv-loop changes greatest₀ reached₀ i₀ greatest reached i = (i ≤ shocked) × Scanned (scenarioSum currencies (listed changes)) i (greatest .0) reached
+Inv-loop changes last greatest₀ reached₀ i₀ greatest reached i = (i ≤ shocked) × Scanned (scenarioSum currencies (listed changes)) i (greatest .0) reached
 
 abbrev μ-loop : tie.MeasureT-loop
-μ-loop changes greatest₀ reached₀ i₀ greatest reached i = shocked - i
+μ-loop changes last greatest₀ reached₀ i₀ greatest reached i = shocked - i
 
 loop-holds : tie.Need-loop-holds Inv-loop μ-loop
 loop-holds c = (omega arith, scanned-none _)

@@ -3,8 +3,8 @@ use mathlib.Core.Path.{sym}
 use native.Mathlib.Omega.{arith}
 use borrow.Author.Needs.{needs}
 use Rattle.face.proofs.FaceLaws.{no-cell}
-use Rattle.face.proofs.put_place.Statement.{statement}
-use Rattle.face.proofs.put_place.Tie as tie
+use Rattle.face.proofs.place.put_place.Statement.{statement}
+use Rattle.face.proofs.place.put_place.Tie as tie
 
 slice-write-place : tie.Need-slice-write-place
 slice-write-place c = search needs

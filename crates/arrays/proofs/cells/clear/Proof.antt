@@ -7,8 +7,8 @@ use borrow.Author.Needs.{needs}
 use lib.IntN.{ℤ, pos}
 use lib.ListN.{length, set, drop, replicate, length-set}
 use Rattle.laws.proofs.Filling.{fill-value-more, fill-value-all}
-use Rattle.book.proofs.rooms.clear.Statement.{statement}
-use Rattle.book.proofs.rooms.clear.Tie as tie
+use Rattle.arrays.proofs.cells.clear.Statement.{statement}
+use Rattle.arrays.proofs.cells.clear.Tie as tie
 
 abbrev Inv-loop : tie.InvT-loop
 Inv-loop cells₀ i₀ cells i = (i ≤ length cells₀) × (length cells ≡ length cells₀) × (cells ≡ replicate i (pos 0) ++ drop i cells₀)
