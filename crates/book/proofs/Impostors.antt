@@ -1,4 +1,4 @@
--- Wrong programs that the contracts of `assess` and `widen` rule out, each by a concrete book: what they would answer or leave is not permitted.
+-- Wrong programs that the contract of `assess` rules out, each by a concrete book: what they would answer or leave is not permitted.
 use Prim.Native.Nat.{ℕ}
 use mathlib.Core.List.{List, append-nil}
 use mathlib.Core.Path.{_≡_, sym, ap, _∙_}
@@ -6,22 +6,16 @@ use native.Mathlib.Omega.{arith}
 use lib.IntN.{ℤ, pos}
 use lib.ListN.{getD, replicate}
 use Rattle.paper.specs.declared.Fault.{Fault}
-use Rattle.paper.specs.Refusals.{Checked, accepted, _>>_, unless}
+use Rattle.paper.specs.Refusals.{Checked, accepted, answerOf}
 use Rattle.paper.specs.Records.{Record, currencies}
 use Rattle.paper.specs.Ledger.{totals, cells, figures}
 use Rattle.paper.specs.Verdict.{changeAt, verdictAt, reportOf}
 use Rattle.paper.specs.Book.{outcome, reportAfter}
-use Rattle.paper.specs.Stored.{storedCurrencies, widened, cannotWiden, widening, reportWidened}
 use Rattle.worked.proofs.Example as example
 use Rattle.worked.proofs.TwoCurrencies as two
 use Rattle.book.specs.declared.assess.Assessed.{Assessed}
 use Rattle.book.specs.declared.assess.Assessed.the-variants.{Refused}
-use Rattle.book.specs.Assessed.{told, answerOf, Assesses}
-use Rattle.book.specs.declared.stored.Widened.{Widened}
-use Rattle.book.specs.declared.stored.Widened.the-variants as turned
-use Rattle.book.specs.declared.stored.Widened.the-variants.{Written}
-use Rattle.book.specs.Stored as Stored
-use Rattle.book.specs.Stored.{Widens}
+use Rattle.book.specs.Assessed.{told, Assesses}
 
 -- rooms of exactly the report and the ledger, nil before
 abbrev nilReport : List ℤ
@@ -88,23 +82,3 @@ module _ {a : Assessed} {report' ledger' : List ℤ} where
   pub not-first-currency : Assesses two.book 1 nilReport nilLedger a report' ledger' → getD report' (changeAt 2 2) (pos 0) ≡ pos 0 → ⊥
   unfolding two.stated two.changes
   not-first-currency p e = let z : _≡_ {A = ℕ} 0 1718282 = cc (figure-of p 7) in omega arith
-
--- ---- `widen`: of a list of ones, in a room of just the report
-
-abbrev ones : List ℤ
-ones = replicate (figures storedCurrencies) (pos 1)
-
--- one that refuses everything
-pub not-all-unwidened : {report' : List ℤ} (f : Fault) → Widens ones nilReport (turned.Refused f) report' → ⊥
-unfolding Stored.told Stored.answerOf widening cannotWiden _>>_ unless
-not-all-unwidened f p = let said = p .says in let z : _≡_ {A = ℕ} 0 1 = cc in omega arith
-
--- one that leaves the last ten where they stood, and one that writes nothing: what stands last is the stored verdict
-pub last-stays-last : {answer : Widened} {report' : List ℤ} → Widens ones nilReport answer report' → getD report' (verdictAt currencies) (pos 0) ≡ pos 1
-unfolding widening reportWidened widened cannotWiden _>>_ unless
-last-stays-last p = ap (λ (l : List ℤ). getD l (verdictAt currencies) (pos 0)) (p .report-is)
-
--- one that leaves what stood in the room between them
-pub others-are-nil : {report' : List ℤ} → Widens ones (replicate (figures currencies) (pos 7)) Written report' → getD report' (changeAt currencies 1) (pos 0) ≡ pos 0
-unfolding widening reportWidened widened cannotWiden _>>_ unless
-others-are-nil p = ap (λ (l : List ℤ). getD l (changeAt currencies 1) (pos 0)) (p .report-is)

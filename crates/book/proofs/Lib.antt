@@ -3,6 +3,4 @@ pub mod Outcome
 -- what `assess` promises
 pub mod Truth
 pub mod Unique
--- the ways out of `widen`
-pub mod Widening
 pub mod Impostors

@@ -13,7 +13,7 @@ use Rattle.laws.proofs.Tests.{first-to}
 use Rattle.paper.specs.declared.Refusal.{Refusal}
 use Rattle.paper.specs.declared.Refusal.the-variants.{BadCapital, BookTooLong, RoomTooSmall}
 use Rattle.paper.specs.declared.Fault.{Fault}
-use Rattle.paper.specs.Refusals.{numberOf, Checked, accepted, refused, _>>_, unless}
+use Rattle.paper.specs.Refusals.{numberOf, Checked, accepted, refused, _>>_, unless, answerOf}
 use Rattle.paper.specs.Flow.{scenarios, shocked}
 use Rattle.paper.specs.Records.{Record, currencies}
 use Rattle.paper.specs.Ledger.{totals, curved, cells, figures, ledgerOf}
@@ -33,7 +33,7 @@ use Rattle.load.specs.Walk.{keptIn}
 use Rattle.load.specs.Load.{ofRecords, AllLoaded}
 use Rattle.book.specs.declared.assess.Assessed.{Assessed}
 use Rattle.book.specs.declared.assess.Assessed.the-variants as assessed
-use Rattle.book.specs.Assessed.{told, answerOf, turnedAway, Answers, Assesses}
+use Rattle.book.specs.Assessed.{told, turnedAway, Answers, Assesses}
 
 -- ---- by the outcome
 

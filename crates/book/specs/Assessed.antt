@@ -5,7 +5,7 @@ use mathlib.Core.Path.{_≡_}
 use lib.IntN.{ℤ}
 use lib.ListN.{length}
 use Rattle.paper.specs.declared.Refusal.{Refusal}
-use Rattle.paper.specs.Refusals.{numberOf, Checked, accepted, refused}
+use Rattle.paper.specs.Refusals.{numberOf, Checked, accepted, Answer, reported, turnedDown, answerOf}
 use Rattle.paper.specs.Records.{Record, currencies}
 use Rattle.paper.specs.Ledger.{totals, curved}
 use Rattle.paper.specs.Book.{outcome, reportAfter, ledgerAfter}
@@ -14,11 +14,6 @@ use Rattle.arrays.specs.Masks.{MaskOf}
 use Rattle.book.specs.declared.assess.Assessed.{Assessed}
 use Rattle.book.specs.declared.assess.Assessed.the-variants.{Reported, Refused}
 
--- what a caller is told: the report is there, or a number and a place
-pub data Answer : Type 0 where
-  reported : Answer
-  turnedDown : (number place : ℕ) → Answer
-
 unfoldable pub told : Assessed → Answer
 told (Reported curves) = reported
 told (Refused f) = turnedDown (numberOf (f .cause)) (f .place)
@@ -26,10 +21,6 @@ told (Refused f) = turnedDown (numberOf (f .cause)) (f .place)
 -- by 16 to 18, which have no place in the book
 abbrev pub turnedAway : Refusal → Assessed
 turnedAway r = Refused (record { cause = r; place = 0 })
-
-unfoldable pub answerOf : Checked (List Record) → Answer
-answerOf (accepted kept) = reported
-answerOf (refused r place) = turnedDown (numberOf r) place
 
 -- the answer to what a book comes to, and what it leaves in the rooms
 pub record Answers (o : Checked (List Record)) (T : ℕ) (report ledger : List ℤ) (answer : Assessed) (report' ledger' : List ℤ) : Type 0 where

@@ -11,11 +11,11 @@ use Rattle.paper.specs.Records.{Record}
 use Rattle.book.specs.declared.assess.Assessed.{Assessed}
 use Rattle.book.specs.declared.assess.Assessed.the-variants.{Reported, Refused}
 use Rattle.book.specs.Assessed.{told, Answers}
-use Rattle.book.specs.declared.stored.Widened.{Widened}
-use Rattle.book.specs.declared.stored.Widened.the-variants as turned
-use Rattle.book.specs.declared.stored.Widened.the-variants.{Written}
-use Rattle.book.specs.Stored as Stored
-use Rattle.book.specs.Stored.{Widens}
+use Rattle.stored.specs.declared.Widened.{Widened}
+use Rattle.stored.specs.declared.Widened.the-variants as turned
+use Rattle.stored.specs.declared.Widened.the-variants.{Written}
+use Rattle.stored.specs.Stored as Stored
+use Rattle.stored.specs.Stored.{Widens}
 use Rattle.face.specs.Face.{numberIn, placeIn, withPlace, Faced, WidenedFace}
 
 pub no-cell : (told-place : ℕ) (room : List ℕ) → length room ≤ 0 → withPlace told-place room ≡ room

@@ -5,14 +5,12 @@ use mathlib.Core.Path.{_≡_}
 use lib.IntN.{ℤ}
 use lib.ListN.{length, set}
 use denote.Ref.{now}
-use Rattle.paper.specs.Refusals.{Checked}
+use Rattle.paper.specs.Refusals.{Checked, Answer, reported, turnedDown, answerOf}
 use Rattle.paper.specs.Records.{Record, currencies}
 use Rattle.paper.specs.Book.{outcome, reportAfter, ledgerAfter}
 use Rattle.paper.specs.Stored.{reportWidened}
 use Rattle.arrays.specs.Lent.{Lent}
-use Rattle.book.specs.Assessed.{Answer, reported, turnedDown, answerOf}
-use Rattle.book.specs.Stored as Stored
-use Rattle.book.specs.Stored.{wideningOf}
+use Rattle.stored.specs.Stored.{wideningOf}
 
 -- 0 stands for a report
 unfoldable pub numberIn : Answer → ℕ
@@ -42,8 +40,8 @@ Faces book T report ledger place number =
 -- ---- and the same of `widen`
 
 pub record WidenedFace (stored report : List ℤ) (place : List ℕ) (number : ℕ) (report' : List ℤ) (place' : List ℕ) : Type 0 where
-  pub number-is : number ≡ numberIn (Stored.answerOf (wideningOf stored report))
-  pub place-is : place' ≡ withPlace (placeIn (Stored.answerOf (wideningOf stored report))) place
+  pub number-is : number ≡ numberIn (answerOf (wideningOf stored report))
+  pub place-is : place' ≡ withPlace (placeIn (answerOf (wideningOf stored report))) place
   pub report-is : report' ≡ reportWidened currencies (wideningOf stored report) report
 
 abbrev pub FacesWidening : List ℤ → Lent ℤ → Lent ℕ → ℕ → Type 0

@@ -1,4 +1,4 @@
-// The face of `assess` for callers in other languages, and in stored.rt that of `widen`: numbers and slices only. It is a crate of its own, because the archive proves its crate once more.
+// The face of `assess` for callers in other languages, and in widening.rt that of `widen`: numbers and slices only. It is a crate of its own, because the archive proves its crate once more.
 ghost use Rattle.book.specs.Assessed.{Truthful};
 ghost use Rattle.face.specs.Face.{Faces};
 use book::assess::Assessed;
@@ -8,7 +8,7 @@ use place::put_place;
 use scales::Thousands;
 
 mod place;
-mod stored;
+mod widening;
 
 // 0 and place 0 where the report was written, else the refusal's number and its place.
 #[no_mangle]

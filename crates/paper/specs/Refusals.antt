@@ -1,4 +1,4 @@
--- Turned down: the number of each cause, and a value that may be refused instead. Each number's circumstance is in TurnedDown.antt.
+-- Turned down: the number of each cause, a value that may be refused instead, and what a caller is told of it. Each number's circumstance is in TurnedDown.antt.
 use Prim.Native.Nat.{ℕ}
 use mathlib.Core.Bool.{Bool, true, false, _&&_, _||_}
 use Rattle.laws.specs.Tests.{_is_, _upTo_}
@@ -54,3 +54,12 @@ unless false r place a = accepted a
 -- the circumstance alone
 abbrev pub refuseIf : Bool → Refusal → ℕ → Checked (Unit {0})
 refuseIf circumstance r place = unless circumstance r place tt
+
+-- what a caller is told: all is there, or a number and a place
+pub data Answer : Type 0 where
+  reported : Answer
+  turnedDown : (number place : ℕ) → Answer
+
+unfoldable pub answerOf : {A : Type 0} → Checked A → Answer
+answerOf (accepted a) = reported
+answerOf (refused r place) = turnedDown (numberOf r) place

@@ -9,7 +9,7 @@ use lib.IntN.{ℤ}
 use lib.ListN.{length, drop, drop-of-length-le}
 use Rattle.laws.specs.Tests.{if_then_else_}
 use Rattle.paper.specs.declared.Fault.{Fault}
-use Rattle.paper.specs.Refusals.{numberOf, Checked, accepted, refused}
+use Rattle.paper.specs.Refusals.{numberOf, Checked, accepted, refused, answerOf}
 use Rattle.paper.specs.Records.{Record, currencies}
 use Rattle.paper.specs.Ledger.{totals, curved, cells, figures}
 use Rattle.paper.specs.Verdict.{reportOf}
@@ -19,7 +19,7 @@ use Rattle.paper.specs.Program.{capitalIn, programOutcome, changesLine, changes
 use Rattle.arrays.specs.Masks.{curvedBy}
 use Rattle.book.specs.declared.assess.Assessed.{Assessed}
 use Rattle.book.specs.declared.assess.Assessed.the-variants.{Reported, Refused}
-use Rattle.book.specs.Assessed.{told, answerOf, Answers, Assesses}
+use Rattle.book.specs.Assessed.{told, Answers, Assesses}
 
 -- a text at the start of a buffer, and how long it is
 abbrev pub Stands : (text before : List ℕ) (count most : ℕ) (after : List ℕ) → Type 0

@@ -1,8 +1,8 @@
 -- `vorlegan_widen`: what `widen` answers, in numbers.
 use borrow.Author.Needs.{needs}
 use Rattle.face.proofs.FaceLaws.{widening-written, widening-refused}
-use Rattle.face.proofs.stored.vorlegan_widen.Statement.{statement}
-use Rattle.face.proofs.stored.vorlegan_widen.Tie as tie
+use Rattle.face.proofs.widening.vorlegan_widen.Statement.{statement}
+use Rattle.face.proofs.widening.vorlegan_widen.Tie as tie
 
 widen-requires : tie.Need-widen-requires
 widen-requires c κs = search needs

@@ -1,8 +1,8 @@
 -- `write_widened`: the changes, zeros, the last ten, each in its part of the room.
 use borrow.Author.Needs.{needs}
-use Rattle.book.proofs.Widening.{parts-widened}
-use Rattle.book.proofs.stored.write_widened.Statement.{statement}
-use Rattle.book.proofs.stored.write_widened.Tie as tie
+use Rattle.stored.proofs.Widening.{parts-widened}
+use Rattle.stored.proofs.write_widened.Statement.{statement}
+use Rattle.stored.proofs.write_widened.Tie as tie
 
 sub-copy : tie.Need-sub-copy
 sub-copy c = search needs

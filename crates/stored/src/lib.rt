@@ -5,7 +5,7 @@ ghost use Rattle.paper.specs.Records.{currencies};
 ghost use Rattle.paper.specs.Ledger.{figures};
 ghost use Rattle.paper.specs.Stored as Stored;
 ghost use Rattle.paper.specs.Stored.{storedCurrencies, cannotWiden};
-ghost use Rattle.book.specs.Stored.{Widens, AsFresh};
+ghost use Rattle.stored.specs.Stored.{Widens, AsFresh};
 use arrays::cells::clear;
 use arrays::cells::copy;
 use paper::CHANGES;

@@ -1,10 +1,10 @@
 // The face of `widen`: a stored report becomes one over all currencies (02, request 7).
-ghost use Rattle.book.specs.Stored.{AsFresh};
+ghost use Rattle.stored.specs.Stored.{AsFresh};
 ghost use Rattle.face.specs.Face.{FacesWidening};
 use crate::place::put_place;
 use book::refusal::refusal_number;
-use book::stored::Widened;
-use book::stored::widen;
+use stored::Widened;
+use stored::widen;
 
 // 0 where the report was written, else the refusal's number; the place is 0 in either case.
 #[no_mangle]

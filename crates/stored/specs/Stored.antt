@@ -4,23 +4,18 @@ use mathlib.Core.List.{List}
 use mathlib.Core.Path.{_≡_}
 use lib.IntN.{ℤ}
 use lib.ListN.{length}
-use Rattle.paper.specs.Refusals.{numberOf, Checked, accepted, refused}
+use Rattle.paper.specs.Refusals.{numberOf, Checked, accepted, Answer, reported, turnedDown, answerOf}
 use Rattle.paper.specs.Records.{Record, currencies}
 use Rattle.paper.specs.Ledger.{totals, cells, figures}
 use Rattle.paper.specs.Verdict.{reportOf}
 use Rattle.paper.specs.Book.{outcome, reportAfter}
 use Rattle.paper.specs.Stored.{storedCurrencies, widening, reportWidened}
-use Rattle.book.specs.declared.stored.Widened.{Widened}
-use Rattle.book.specs.declared.stored.Widened.the-variants.{Written, Refused}
-use Rattle.book.specs.Assessed.{Answer, reported, turnedDown}
+use Rattle.stored.specs.declared.Widened.{Widened}
+use Rattle.stored.specs.declared.Widened.the-variants.{Written, Refused}
 
 unfoldable pub told : Widened → Answer
 told Written = reported
 told (Refused f) = turnedDown (numberOf (f .cause)) (f .place)
-
-unfoldable pub answerOf : Checked (List ℤ) → Answer
-answerOf (accepted wide) = reported
-answerOf (refused r place) = turnedDown (numberOf r) place
 
 abbrev pub wideningOf : (stored report : List ℤ) → Checked (List ℤ)
 wideningOf stored report = widening storedCurrencies currencies stored (length report)

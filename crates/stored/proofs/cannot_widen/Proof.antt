@@ -1,7 +1,7 @@
 -- `cannot_widen`: 18 is on the list and on the room.
-use Rattle.book.proofs.Widening.{another-length, by-the-room}
-use Rattle.book.proofs.stored.cannot_widen.Statement.{statement}
-use Rattle.book.proofs.stored.cannot_widen.Tie as tie
+use Rattle.stored.proofs.Widening.{another-length, by-the-room}
+use Rattle.stored.proofs.cannot_widen.Statement.{statement}
+use Rattle.stored.proofs.cannot_widen.Tie as tie
 
 returns : tie.Need-returns
 returns c = another-length (c .before .args .stored) (c .before .args .report) (c .if1 .taken)

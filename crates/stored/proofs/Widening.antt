@@ -14,7 +14,7 @@ use Rattle.laws.proofs.Tests.{or-false}
 use Rattle.laws.proofs.Lists.{tabulateFrom-length}
 use Rattle.laws.proofs.Sections.{length-section, splice-three}
 use Rattle.paper.specs.declared.Refusal.the-variants.{RoomTooSmall}
-use Rattle.paper.specs.Refusals.{_>>_, unless}
+use Rattle.paper.specs.Refusals.{_>>_, unless, answerOf}
 use Rattle.paper.specs.Records.{currencies}
 use Rattle.paper.specs.Ledger.{Totals, totals, cells, figures}
 use Rattle.paper.specs.TurnedDown.{roomTooSmall}
@@ -22,8 +22,8 @@ use Rattle.paper.specs.Verdict.{changesOf, reportFrom, reportOf}
 use Rattle.paper.specs.Book.{reportAfter}
 use Rattle.paper.specs.Stored.{storedCurrencies, widened, cannotWiden, widening, reportWidened}
 use Rattle.paper.proofs.WiderReport.{stored-accepted, stored-widened}
-use Rattle.book.specs.declared.stored.Widened.the-variants.{Written, Refused}
-use Rattle.book.specs.Stored.{told, answerOf, Widens, AsFresh}
+use Rattle.stored.specs.declared.Widened.the-variants.{Written, Refused}
+use Rattle.stored.specs.Stored.{told, Widens, AsFresh}
 
 -- ---- 18
 

@@ -9,9 +9,9 @@ use lib.Seq.{length-take-le}
 use Rattle.paper.specs.Records.{currencies}
 use Rattle.paper.specs.Ledger.{figures}
 use Rattle.paper.specs.Stored.{storedCurrencies}
-use Rattle.book.proofs.Widening.{widens, widen-refused, widen-written}
-use Rattle.book.proofs.stored.widen.Statement.{statement}
-use Rattle.book.proofs.stored.widen.Tie as tie
+use Rattle.stored.proofs.Widening.{widens, widen-refused, widen-written}
+use Rattle.stored.proofs.widen.Statement.{statement}
+use Rattle.stored.proofs.widen.Tie as tie
 
 cannot-widen-requires : tie.Need-cannot-widen-requires
 cannot-widen-requires c κs = search needs
