@@ -25,9 +25,13 @@ placeIn (turnedDown number place) = place
 abbrev pub withPlace : ℕ → List ℕ → List ℕ
 withPlace told room = set room 0 told
 
+-- an answer, as the number that comes back and what the room for the place then holds
+pub record Tells (a : Answer) (place : List ℕ) (number : ℕ) (place' : List ℕ) : Type 0 where
+  pub number-is : number ≡ numberIn a
+  pub place-is : place' ≡ withPlace (placeIn a) place
+
 pub record Faced (o : Checked (List Record)) (T : ℕ) (report ledger : List ℤ) (place : List ℕ) (number : ℕ) (report' ledger' : List ℤ) (place' : List ℕ) : Type 0 where
-  pub number-is : number ≡ numberIn (answerOf o)
-  pub place-is : place' ≡ withPlace (placeIn (answerOf o)) place
+  pub tells : Tells (answerOf o) place number place'
   pub report-is : report' ≡ reportAfter currencies o T report
   pub ledger-is : ledger' ≡ ledgerAfter currencies o ledger
 
@@ -40,8 +44,7 @@ Faces book T report ledger place number =
 -- ---- and the same of `widen`
 
 pub record WidenedFace (stored report : List ℤ) (place : List ℕ) (number : ℕ) (report' : List ℤ) (place' : List ℕ) : Type 0 where
-  pub number-is : number ≡ numberIn (answerOf (wideningOf stored report))
-  pub place-is : place' ≡ withPlace (placeIn (answerOf (wideningOf stored report))) place
+  pub tells : Tells (answerOf (wideningOf stored report)) place number place'
   pub report-is : report' ≡ reportWidened currencies (wideningOf stored report) report
 
 abbrev pub FacesWidening : List ℤ → Lent ℤ → Lent ℕ → ℕ → Type 0

@@ -104,12 +104,14 @@ pub sum-none : (f : ℕ → ℕ) (n : ℕ) → ((k : ℕ) → k < n → f k ≡ 
 sum-none f n h = sum-ext f (λ k. 0) n h ∙ sum-nil n
 
 -- past n there is nothing more
-pub sum-rest : (f : ℕ → ℕ) (n d : ℕ) → ((k : ℕ) → n ≤ k → k < n + d → f k ≡ 0) → sum f (n + d) ≡ sum f n
-unfolding sum
-sum-rest f n zero h = ap (sum f) (add-zero n)
-sum-rest f n (suc d) h =
-    let last : n + suc d ≡ suc (n + d) = omega arith in
-    rw last (omega (arith, sum-rest f n d (λ k l m. h k l (omega arith)), h (n + d) (omega arith) (omega arith)))
+pub sum-rest : (f : ℕ → ℕ) (n m : ℕ) → n ≤ m → ((k : ℕ) → n ≤ k → k < m → f k ≡ 0) → sum f m ≡ sum f n
+sum-rest f n m l h = let end : n + (m - n) ≡ m = omega arith in rw end at (by (m - n) (λ k a b. h k a (omega arith)))
+  where
+    by : (d : ℕ) → ((k : ℕ) → n ≤ k → k < n + d → f k ≡ 0) → sum f (n + d) ≡ sum f n
+    by zero h = ap (sum f) (add-zero n)
+    by (suc d) h =
+        let last : n + suc d ≡ n + d + 1 = omega arith in
+        rw last (omega (arith, sum-more f (n + d), by d (λ k a b. h k a (omega arith)), h (n + d) (omega arith) (omega arith)))
 
 pub sum-only : (f : ℕ → ℕ) (n j : ℕ) → j < n → ((k : ℕ) → k < n → k ≢ j → f k ≡ 0) → sum f n ≡ f j
 unfolding sum

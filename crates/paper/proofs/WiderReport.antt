@@ -44,17 +44,13 @@ unfolding widened
 widened-parts few top own ten e = rw (sym e, take-append-seam own ten, drop-append-seam own ten)
 
 module _ (few top : ℕ) (l : few ≤ top) where
-  to-the-top : few + (top - few) ≡ top
-  to-the-top = omega arith
-
   -- ---- changes that are nil above the few
 
   module _ (changes : ℕ → ℕ → ℤ) (nil : (c i : ℕ) → few < c → changes c i ≡ pos 0) where
     sums-stay : (i : ℕ) → 1 ≤ i → i ≤ 6 → scenarioSum few changes i ≡ scenarioSum top changes i
     unfolding scenarioSum
     sums-stay i _ _ =
-        let rest = sum-rest (λ c. up (changes (suc c) i)) few (top - few) (λ k m _. ap up (nil (suc k) i (omega arith))) in
-        sym (rw to-the-top at rest)
+        sym (sum-rest (λ c. up (changes (suc c) i)) few top l (λ k m _. ap up (nil (suc k) i (omega arith))))
 
     changes-wider : changesOf top changes ≡ changesOf few changes ++ replicate (6 * (top - few)) (pos 0)
     unfolding changesOf
@@ -84,8 +80,7 @@ module _ (few top : ℕ) (l : few ≤ top) where
     unfolding totalTolerance
     tolerance-stays =
         greatest-ext _ _ 6 (λ i _ _.
-        let rest = sum-rest (λ c. tolerance (totals kept) (suc c) i) few (top - few) (λ k m _. unused-tolerance kept (suc k) (unused-above few (suc k) (omega arith) kept none) i) in
-        sym (rw to-the-top at rest))
+        sym (sum-rest (λ c. tolerance (totals kept) (suc c) i) few top l (λ k m _. unused-tolerance kept (suc k) (unused-above few (suc k) (omega arith) kept none) i)))
 
     pub report-wider : (T : ℕ) → widened few top (reportOf few (totals kept) T) ≡ reportOf top (totals kept) T
     unfolding reportOf

@@ -39,10 +39,7 @@ module _ {last : ℕ} {list : List ℤ} (f : Figures last list) (i : ℕ) where
   -- the last currency's loss is the last
   pub losses-all : sum (λ c. up (listed list (suc c) i)) last ≡ scenarioSum currencies (listed list) i
   unfolding scenarioSum listed
-  losses-all =
-      let top : last + (currencies - last) ≡ currencies = omega (arith, f .most) in
-      let rest = sum-rest (λ c. up (listed list (suc c) i)) last (currencies - last) (λ c l _. ap up (f .nil _ (omega arith))) in
-      sym (rw top at rest)
+  losses-all = sym (sum-rest (λ c. up (listed list (suc c) i)) last currencies (f .most) (λ c l _. ap up (f .nil _ (omega arith))))
 
   pub scenario-sum-most : scenarioSum currencies (listed list) i ≤ mostOfASum
   unfolding scenarioSum

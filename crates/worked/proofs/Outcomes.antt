@@ -99,8 +99,8 @@ books =
     ∷ []
 
 -- kind 10, and the last currency, in a table of their own, because a claim may take so many steps and no more
-unfoldable pub listedBooks : List Row
-listedBooks =
+unfoldable pub furtherBooks : List Row
+furtherBooks =
     ends (curve 1 ++ listed 1) 12 84
     ∷ ends (listed 1 ++ curve 1) 12 82
     ∷ ends (asset 1 5 ++ (10 ∷ listedBody 1 3 (N ∷ Z ∷ D ∷ []) (rates 19 (in4 0)))) 19 10
@@ -114,6 +114,6 @@ pub books-end : map (λ r. r .gives) books ≡ map (λ r. r .stated) books
 unfolding books ends roomed endingOf rates any first sum total totalℤ some nearest nearestℤ factorial notAfter upperEnds bucketOf midpoints numberOf _>>=_ _>>_ unless denominator seriesTerm numerator billionOverE shortShare rateChanges shockedRate kinds bodyLength currencyOf isCurve prepaymentMultipliers withdrawalMultipliers behaviouralRate weighedCore depositFlow paid prepaid interest outstandingAt scheduledAt paidAt prepaidAt interestAt loanFlow moved termDepositFlow sided due couponsDue flowOf flow adds magnitude ofCurrency used curved unknownKind cutShort badCurrency badSide badMonths badDays badPeriod badCount badAmount badOption badShare badCategory coreAboveCap coreTooLong interestAlone secondCurve badRate badShock badShocked scheduleOver flowsOver optionsOver overLimit lacksCurve badCapital bookTooLong roomTooSmall signed field each decodeSingle decodeCoupons decodeFloating decodeDeposit decodeLoan decodeTermDeposit decodeOption decodeCurve decodeFloatingSpread decode placed admitted recordAt nextAt walkFrom walk covered outcome
 books-end = refl
 
-pub listed-books-end : map (λ r. r .gives) listedBooks ≡ map (λ r. r .stated) listedBooks
-unfolding listedBooks ends endingOf rates any first sum total totalℤ some nearest nearestℤ factorial notAfter upperEnds bucketOf midpoints numberOf _>>=_ _>>_ unless denominator seriesTerm numerator billionOverE shortShare rateChanges shockedRate kinds bodyLength currencyOf isCurve sided due flowOf flow adds magnitude ofCurrency used curved unknownKind cutShort badCurrency badSide badMonths badDays badAmount secondCurve badRate badShock badShocked flowsOver optionsOver overLimit lacksCurve badCapital bookTooLong roomTooSmall signed field each unknownEdition codeNotListed edition1 edition2 listOf lineOf shocksFor listedAt decodeSingle decodeCurve decodeListedCurve decode placed admitted recordAt nextAt walkFrom walk covered outcome
-listed-books-end = refl
+pub further-books-end : map (λ r. r .gives) furtherBooks ≡ map (λ r. r .stated) furtherBooks
+unfolding furtherBooks ends endingOf rates any first sum total totalℤ some nearest nearestℤ factorial notAfter upperEnds bucketOf midpoints numberOf _>>=_ _>>_ unless denominator seriesTerm numerator billionOverE shortShare rateChanges shockedRate kinds bodyLength currencyOf isCurve sided due flowOf flow adds magnitude ofCurrency used curved unknownKind cutShort badCurrency badSide badMonths badDays badAmount secondCurve badRate badShock badShocked flowsOver optionsOver overLimit lacksCurve badCapital bookTooLong roomTooSmall signed field each unknownEdition codeNotListed edition1 edition2 listOf lineOf shocksFor listedAt decodeSingle decodeCurve decodeListedCurve decode placed admitted recordAt nextAt walkFrom walk covered outcome
+further-books-end = refl

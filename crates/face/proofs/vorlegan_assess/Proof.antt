@@ -34,7 +34,7 @@ same-length-3 c = search needs
 returns : tie.Need-returns
 returns c =
     let promised = c .before .before .before .before .before .before .before .before .assess .ensures in
-    (faced-reported _ _ _ _ (c .before .before .before .before .enum-told .given .1) (promised .0 .answers) (c .before .before .put-place .ensures), promised .1)
+    (faced-reported _ _ _ (promised .0 .answers) _ (c .before .before .before .before .enum-told .given .1) (c .before .before .put-place .ensures), promised .1)
 
 same-length-4 : tie.Need-same-length-4
 same-length-4 c = search needs
@@ -48,7 +48,7 @@ same-length-6 c = search needs
 returns-2 : tie.Need-returns-2
 returns-2 c =
     let promised = c .before .before .before .before .before .before .before .before .before .before .assess .ensures in
-    (faced-refused _ _ _ _ _ (c .before .before .before .before .before .before .fault .given .1) (promised .0 .answers) (c .before .before .before .put-place2 .ensures) (c .refusal-number .ensures), promised .1)
+    (faced-refused _ _ _ (promised .0 .answers) _ _ (c .before .before .before .before .before .before .fault .given .1) (c .before .before .before .put-place2 .ensures) (c .refusal-number .ensures), promised .1)
 
 pub vorlegan-assess-spec : {M : Type 1} → statement M
 vorlegan-assess-spec =

@@ -31,7 +31,7 @@ same-length-2 c = search needs
 returns : tie.Need-returns
 returns c =
     let promised = c .before .before .before .before .before .before .before .widen .ensures in
-    (widening-written _ _ _ (c .before .before .before .before .enum-told .given .1) (promised .0) (c .before .before .put-place .ensures), promised .1)
+    (widening-written _ _ _ (promised .0) (c .before .before .before .before .enum-told .given .1) (c .before .before .put-place .ensures), promised .1)
 
 same-length-3 : tie.Need-same-length-3
 same-length-3 c = search needs
@@ -42,7 +42,7 @@ same-length-4 c = search needs
 returns-2 : tie.Need-returns-2
 returns-2 c =
     let promised = c .before .before .before .before .before .before .before .before .before .widen .ensures in
-    (widening-refused _ _ _ _ _ (c .before .before .before .before .before .before .fault .given .1) (promised .0) (c .before .before .before .put-place2 .ensures) (c .refusal-number .ensures), promised .1)
+    (widening-refused _ _ _ (promised .0) _ _ (c .before .before .before .before .before .before .fault .given .1) (c .before .before .before .put-place2 .ensures) (c .refusal-number .ensures), promised .1)
 
 pub vorlegan-widen-spec : {M : Type 1} → statement M
 vorlegan-widen-spec =
