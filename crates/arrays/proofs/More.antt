@@ -69,7 +69,7 @@ module _ (kept : List Record) (r : Record) (l : 1 ≤ currencyOf r) (h : currenc
 -- ---- read back
 
 module _ {A : Type 0} (d : A) where
-  by-at : (width : ℕ) (f : ℕ → ℕ → A) (c j : ℕ) → 0 < width → 1 ≤ c → c ≤ currencies → j < width
+  pub by-at : (width : ℕ) (f : ℕ → ℕ → A) (c j : ℕ) → 0 < width → 1 ≤ c → c ≤ currencies → j < width
       → getD (byCurrency width f) (width * (c - 1) + j) d ≡ f c j
   unfolding byCurrency
   by-at width f c j w l h o =

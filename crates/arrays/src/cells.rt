@@ -1,4 +1,4 @@
-// Runs of numbers, lent by a caller: cleared, and copied one into another.
+// Runs of numbers, lent by a caller: cleared, and copied one into another. Rates are kept in 32 bits.
 ghost use mathlib.Core.Path.{_≡_};
 ghost use lib.IntN.{pos};
 ghost use lib.ListN.{length, replicate};
@@ -20,6 +20,17 @@ pub fn copy(from: &[i64], cells: &mut [i64])
     let mut i = 0;
     while i < cells.len() {
         cells[i] = from[i];
+        i += 1;
+    }
+}
+
+pub fn copy_rates(from: &[i32], cells: &mut [i64])
+    requires { ⌜ length (now from) ≡ length (now cells) ⌝ }
+    ensures { λ _. ⌜ now (cells .exit) ≡ now (from .entry) ⌝ }
+{
+    let mut i = 0;
+    while i < cells.len() {
+        cells[i] = from[i] as i64;
         i += 1;
     }
 }

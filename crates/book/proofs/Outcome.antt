@@ -42,7 +42,7 @@ no-curves : {o : Checked (List Record)} (f : Fault) (curves : ℕ) (kept : List 
 no-curves f curves kept e also = let z : _≡_ {A = ℕ} 0 1 = cc in absurd (omega arith)
 
 -- a refusal that touches nothing
-untouched : {o : Checked (List Record)} {T : ℕ} {report ledger : List ℤ} (q : Refusal)
+pub untouched : {o : Checked (List Record)} {T : ℕ} {report ledger : List ℤ} (q : Refusal)
     → o ≡ refused q 0 → touchesNothing q ≡ true → Answers o T report ledger (turnedAway q) report ledger
 unfolding told answerOf reportAfter ledgerAfter
 untouched q e t = record { says = rw e; curves-are = no-curves (record { cause = q; place = 0 }); report-is = rw e; ledger-is = rw (e, t) }
@@ -80,22 +80,23 @@ records-covered book =
     let above : currencies < first (lacksCurve kept) 1 currencies = leb-false (first (lacksCurve kept) 1 currencies) currencies t in
     omega (arith, first-to (lacksCurve kept) 1 currencies)))
 
+-- the arrays then
+module _ (book : List ℕ) (curves : ℕ) (a : Arrays) (holds : a ≡ arraysOf (keptIn book)) (all : AllLoaded book curves) where
+  pub good : Good (keptIn book)
+  good = known-of (records-good currencies book) (keptIn book) (all .loaded)
+
+  pub all-sized : Sized currencies a
+  all-sized = rw holds (arrays-sized (keptIn book) good)
+
+  pub bounds-hold : Bounds (totalsBy (a .ledger) (a .addOns) (a .rates)) (curvedBy curves)
+  bounds-hold = rw holds (kept-bounds (keptIn book) good curves (all .curved-is) (known-of (records-covered book) (keptIn book) (all .loaded)))
+
 module _ (book : List ℕ) (T : ℕ) (report ledger : List ℤ) (ledger-long : length ledger ≡ cells currencies) where
   pub answers-refused : (full ledger' : List ℤ) (f : Fault) → ofRecords book ≡ refused (f .cause) (f .place) → length full ≡ cells currencies → ledger' ≡ replicate (length full) (pos 0)
       → Answers (ofRecords book) T report ledger (assessed.Refused f) report ledger'
   answers-refused full ledger' f e same is-clear = cleared full ledger' f e (cause-of (records-good currencies book) (f .cause) (f .place) e) ledger-long same is-clear
 
   module _ (curves : ℕ) (a : Arrays) (holds : a ≡ arraysOf (keptIn book)) (all : AllLoaded book curves) where
-    good : Good (keptIn book)
-    good = known-of (records-good currencies book) (keptIn book) (all .loaded)
-
-    -- what the report may rely on
-    pub all-sized : Sized currencies a
-    all-sized = rw holds (arrays-sized (keptIn book) good)
-
-    pub bounds-hold : Bounds (totalsBy (a .ledger) (a .addOns) (a .rates)) (curvedBy curves)
-    bounds-hold = rw holds (kept-bounds (keptIn book) good curves (all .curved-is) (known-of (records-covered book) (keptIn book) (all .loaded)))
-
     pub answers-reported : length report ≡ figures currencies
         → Answers (ofRecords book) T report ledger (assessed.Reported curves) (reportOf currencies (totalsBy (a .ledger) (a .addOns) (a .rates)) T) (a .ledger)
     unfolding told answerOf reportAfter ledgerAfter arraysOf
@@ -149,9 +150,9 @@ unfolding roomTooSmall
 room-enough n k e =
     let f = neither (n below figures currencies) (k below cells currencies) e in (ltb-false n (figures currencies) (f .0), ltb-false k (cells currencies) (f .1))
 
-pub capital-fits : (T : ℕ) → badCapital T ≡ false → T ≤ 1_000_000_000_000
+pub capital-fits : (T : ℕ) → badCapital T ≡ false → (1 ≤ T) × (T ≤ 1_000_000_000_000)
 unfolding badCapital
-capital-fits T e = leb-true T 1_000_000_000_000 (both (1 upTo T) (T upTo 1_000_000_000_000) (not-false _ e) .1)
+capital-fits T e = let f = both (1 upTo T) (T upTo 1_000_000_000_000) (not-false _ e) in (leb-true 1 T (f .0), leb-true T 1_000_000_000_000 (f .1))
 
 module _ (book : List ℕ) (T : ℕ) (report ledger : List ℤ) where
   pub room-refused : roomTooSmall currencies (length report) (length ledger) ≡ true → Assesses book T report ledger (turnedAway RoomTooSmall) report ledger

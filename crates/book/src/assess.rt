@@ -60,7 +60,7 @@ fn assess_records(book: &[u8], tier1: Thousands, report: &mut [i64], ledger: &mu
 }
 
 // 16 to 18 have no place in the book.
-fn refused(cause: Refusal) -> Assessed
+pub fn refused(cause: Refusal) -> Assessed
     ensures { λ r. ⌜ r ≡ turnedAway cause ⌝ }
 {
     Assessed::Refused(Fault { cause, place: 0 })

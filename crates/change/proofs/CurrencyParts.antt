@@ -1,18 +1,20 @@
 -- A currency's own parts of the arrays are read as currency 1's.
 use Prim.Native.Nat.{ℕ, _+_, _*_, _-_, _≤_, _<_}
 use mathlib.Core.List.{List, []}
-use mathlib.Core.Path.{_≡_, refl, ap}
+use mathlib.Core.Path.{_≡_, refl, sym, ap, _∙_}
 use native.Mathlib.Omega.{arith}
 use lib.IntN.{ℤ, pos}
 use lib.ListN.{getD}
-use Rattle.laws.specs.Lists.{section}
+use Rattle.laws.specs.Lists.{section, tabulateFrom}
+use Rattle.laws.proofs.Lists.{tabulateFrom-ext}
 use Rattle.laws.proofs.Sections.{section-place}
 use Rattle.paper.specs.Ladder.{buckets}
 use Rattle.paper.specs.Flow.{scenarios, shocked}
 use Rattle.paper.specs.Ledger.{sectionSize}
 use Rattle.paper.specs.Change.{netSize, tolerance}
 use Rattle.arrays.specs.Rooms.{cellBy, listed, totalsBy}
-use Rattle.change.proofs.Agreement.{SameRow, SameCurrency}
+use Rattle.change.specs.Figures.{tolerances, ownTolerances}
+use Rattle.change.proofs.Agreement.{SameRow, SameCurrency, net-same, tolerance-same}
 
 -- a value needs no add-ons, and a size no rates either
 pub no-add-ons : (ledger addOns rates : List ℤ) (c i : ℕ) → SameRow (totalsBy ledger addOns rates) c i (totalsBy ledger [] rates) c i
@@ -55,3 +57,15 @@ module _ (ledger rates addOns : List ℤ) (c : ℕ) where
     rows = λ i l. record { cells = λ k m. cell-at ledger i k l m; rates = λ k m. cell-at rates i k l m };
     addOns = addOn-at;
   }
+
+  -- sizes and tolerances, by its part of the ledger alone
+  abbrev cells : List ℤ
+  cells = section (sectionSize * c) sectionSize ledger
+
+  pub part-net : (i : ℕ) → i < scenarios → netSize (totalsBy ledger addOns rates) (c + 1) i ≡ netSize (totalsBy cells [] []) 1 i
+  part-net i l = net-same (part-of .rows i l) ∙ net-alone cells (section (shocked * c) shocked addOns) (section (sectionSize * c) sectionSize rates) 1 i
+
+  pub part-tolerances : ownTolerances cells ≡ tabulateFrom (tolerances (totalsBy ledger addOns rates) (c + 1)) 1 shocked
+  part-tolerances =
+      tabulateFrom-ext _ _ 1 shocked
+      (λ i p l. ap pos (sym (tolerance-same part-of i p (omega arith) ∙ tolerance-alone cells (section (shocked * c) shocked addOns) (section (sectionSize * c) sectionSize rates) 1 i)))

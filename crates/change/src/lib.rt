@@ -106,7 +106,7 @@ fn fill_changes(
 }
 
 // The tolerance of each.
-fn fill_tolerances(cells: &[i64], tolerances: &mut [i64])
+pub fn fill_tolerances(cells: &[i64], tolerances: &mut [i64])
     requires { ⌜ (length (now cells) ≡ sectionSize) × (length (now tolerances) ≡ shocked) ⌝ }
     requires { ⌜ ((i : ℕ) → i < scenarios → netSize (totalsBy (now cells) [] []) 1 i ≤ billion) ⌝ }
     ensures { λ _. ⌜ now (tolerances .exit) ≡ ownTolerances (now (cells .entry)) ⌝ }

@@ -41,6 +41,12 @@ module _ {A : Type 0} where
 
   -- ---- element by element
 
+  -- ones are as many as there are elements
+  pub total-ones : (xs : List A) → total (λ x. 1) xs ≡ length xs
+  unfolding total
+  total-ones [] = refl
+  total-ones (x ∷ xs) = omega (arith, total-ones xs)
+
   pub total-ext : (f g : A → ℕ) (xs : List A) → ((x : A) → f x ≡ g x) → total f xs ≡ total g xs
   unfolding total
   total-ext f g [] h = refl

@@ -5,14 +5,14 @@ use mathlib.Core.List.{List, _∷_}
 use mathlib.Core.Logic.{⊎-elim}
 use mathlib.Core.Path.{_≡_, refl, sym, ap, _∙_}
 use native.Mathlib.Omega.{arith}
-use lib.ListN.{List·getD-eq-default}
+use lib.ListN.{length, List·getD-eq-default}
 use borrow.Author.Tests.{eqb-true, eqb-false, ltb-true, ltb-false, ne-eqb}
 use Rattle.laws.specs.Tests.{if_then_else_, _is_, _below_}
 use Rattle.laws.proofs.Tests.{lt-or-ge}
 use Rattle.paper.specs.declared.Refusal.the-variants.{UnknownKind}
 use Rattle.paper.specs.Refusals.{numberOf, ofField, Checked, refused}
 use Rattle.paper.specs.Ladder.{buckets}
-use Rattle.paper.specs.Records.{Record, option, curve, kinds, bodyLength, currencyOf, isCurve, curveKind}
+use Rattle.paper.specs.Records.{Record, option, curve, kinds, kindCount, bodyLength, currencyOf, isCurve, curveKind}
 use Rattle.paper.specs.Curve.{Curve}
 use Rattle.paper.specs.Flow.{flow, adds, gives}
 use Rattle.paper.specs.Published.{Size}
@@ -203,9 +203,9 @@ module _ (top : ℕ) (curved : ℕ → Bool) where
 pub row-length : {code kind bytes : ℕ} {top : ℕ} {curved : ℕ → Bool} {decodeIt : List ℕ → Checked Record} → Row top kind bytes curved decodeIt → code ≡ kind → bytes ≡ bodyLength code
 row-length of here = sym (ap bodyLength here ∙ of .long)
 
--- kinds are 1 to this
-abbrev lastKind : ℕ
-lastKind = 10
+kinds-counted : length kinds ≡ kindCount
+unfolding kinds
+kinds-counted = refl
 
 -- none of 1 to n
 abbrev pub NoneUpTo : ℕ → ℕ → Type 0
@@ -213,7 +213,7 @@ NoneUpTo zero k = Unit
 NoneUpTo (suc n) k = NoneUpTo n k × (k ≡ suc n → ⊥)
 
 abbrev pub NoneOf : ℕ → Type 0
-NoneOf = NoneUpTo lastKind
+NoneOf = NoneUpTo kindCount
 
 only-nought : (n k : ℕ) → NoneUpTo n k → k ≤ n → k ≡ 0
 only-nought zero k f l = omega arith
@@ -222,7 +222,15 @@ only-nought (suc n) k f l = ⊎-elim (λ less. only-nought n k (f .0) (omega ari
 pub none-such : (kind : ℕ) → NoneOf kind → bodyLength kind ≡ 0
 unfolding bodyLength kinds
 none-such kind f =
-    ⊎-elim (λ past. List·getD-eq-default (0 ∷ kinds) 0 {n = kind} past) (λ l. rw (only-nought lastKind kind f (omega arith))) (lt-or-ge lastKind kind)
+    ⊎-elim (λ past. List·getD-eq-default (0 ∷ kinds) 0 {n = kind} past) (λ l. rw (only-nought kindCount kind f (omega arith))) (lt-or-ge kindCount kind)
+
+pub known-kind : (kind : ℕ) → (bodyLength kind ≡ 0 → ⊥) → (1 ≤ kind) × (kind ≤ kindCount)
+unfolding bodyLength kinds
+known-kind kind some =
+    (⊎-elim (λ none. absurd (some (rw (nought none)))) (λ l. l) (lt-or-ge kind 1), ⊎-elim (λ past. absurd (some (List·getD-eq-default (0 ∷ kinds) 0 {n = kind} past))) (λ l. l) (lt-or-ge kindCount kind))
+  where
+    nought : kind < 1 → kind ≡ 0
+    nought l = omega arith
 
 pub none-decoded : (top : ℕ) (curved : ℕ → Bool) (kind : ℕ) (body : List ℕ) → NoneOf kind → decode top curved kind body ≡ refused UnknownKind 0
 unfolding decode
@@ -240,8 +248,8 @@ none-decoded top curved kind body f =
       other 10 (omega arith),
     )
   where
-    other : (n : ℕ) → (1 ≤ n) × (n ≤ lastKind) → (kind is n) ≡ false
-    other n l = ne-eqb kind n (λ e. omega (arith, only-nought lastKind kind f (omega arith)))
+    other : (n : ℕ) → (1 ≤ n) × (n ≤ kindCount) → (kind is n) ≡ false
+    other n l = ne-eqb kind n (λ e. omega (arith, only-nought kindCount kind f (omega arith)))
 
 -- ---- the first field of every kind is its currency
 

@@ -39,6 +39,8 @@ pub mod EmptyCurrency
 -- a book over another number of currencies, and its stored report widened (02, request 7)
 pub mod OtherTop
 pub mod WiderReport
+-- what stands behind a report
+pub mod Detail
 -- demand 3 for every accepted book
 pub mod Demand3
 -- the digits in parts; the table's entries, written out and by rule, by which a report is cheap to compute

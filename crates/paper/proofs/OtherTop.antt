@@ -29,7 +29,7 @@ use Rattle.paper.proofs.KindTable.{first-field}
 -- ---- links that were passed
 
 module _ {A : Type 0} where
-  field-own : (bad : A → Bool) (q : Refusal) (o : ℕ) (x : A) → Known (λ z. z ≡ x) (field bad q o x)
+  pub field-own : (bad : A → Bool) (q : Refusal) (o : ℕ) (x : A) → Known (λ z. z ≡ x) (field bad q o x)
   unfolding field
   field-own bad q o x = unless-known (bad x) q (suc o) x tt (λ _. refl)
 
@@ -57,10 +57,10 @@ unfolding decode decodeSingle decodeCoupons decodeFloating decodeDeposit decodeL
 decode-same a b curved kind body e = rw e
 
 module _ (before : SoFar) (book : List ℕ) (at : ℕ) where
-  abbrev body : List ℕ
+  abbrev pub body : List ℕ
   body = take (bodyLength (byte book at)) (drop (suc at) book)
 
-  record-own : (a : ℕ) → Known (λ r. currencyAt a body 0 ≡ accepted (currencyOf r)) (recordAt a before book at)
+  pub record-own : (a : ℕ) → Known (λ r. currencyAt a body 0 ≡ accepted (currencyOf r)) (recordAt a before book at)
   unfolding recordAt admitted
   record-own a =
       placed-known at (λ q o i. tt)
@@ -158,7 +158,7 @@ covered-other a b kept within none = covered-all b kept (λ c l h. by c l (lt-or
 -- ---- the book
 
 module _ (a : ℕ) (book : List ℕ) (T reportRoom ledgerRoom : ℕ) (kept : List Record) (e : outcome a book T reportRoom ledgerRoom ≡ accepted kept) where
-  tested-before : (bookTooLong (length book) ≡ false) × (badCapital T ≡ false) × ((walk a book >>= covered a) ≡ accepted kept)
+  pub tested-before : (bookTooLong (length book) ≡ false) × (badCapital T ≡ false) × ((walk a book >>= covered a) ≡ accepted kept)
   unfolding outcome
   tested-before =
       let room = passed-test _ _ _ _ _ e in
@@ -166,7 +166,7 @@ module _ (a : ℕ) (book : List ℕ) (T reportRoom ledgerRoom : ℕ) (kept : Lis
       let capital = passed-test _ _ _ _ _ (long .1) in
       (long .0, capital .0, capital .1)
 
-  walked : (walk a book ≡ accepted kept) × ((c : ℕ) → 1 ≤ c → c ≤ a → lacksCurve kept c ≡ false)
+  pub walked : (walk a book ≡ accepted kept) × ((c : ℕ) → 1 ≤ c → c ≤ a → lacksCurve kept c ≡ false)
   walked =
       let link = passed-link (walk a book) (covered a) kept (tested-before .2) in
       let own = known-of (covered-own a (link .0)) kept (link .2) in

@@ -28,8 +28,9 @@ pub mod Demand3
 pub mod Refusals
 pub mod TurnedDown
 pub mod Book
--- The report program
+-- The report program, and the program that shows what stands behind a report
 pub mod Program
+pub mod Detail
 -- Reports stored when currencies were 1 to 8 (02, request 7)
 pub mod Stored
 -- no part of 01: what is known of an accepted record, and how places were told before request 2 of 02

@@ -35,9 +35,13 @@ digitsOf (suc most) n = if n below 10 then (48 + n) ∷ [] else (digitsOf most (
 unfoldable pub decimal : ℕ → List ℕ
 decimal n = digitsOf 20 n
 
-unfoldable pub signedDecimal : ℤ → List ℕ
-signedDecimal (pos n) = decimal n
-signedDecimal (negsuc n) = 45 ∷ decimal (suc n)
+-- a minus sign goes before the text of a number below zero
+unfoldable pub withSign : (ℕ → List ℕ) → ℤ → List ℕ
+withSign text (pos n) = text n
+withSign text (negsuc n) = 45 ∷ text (suc n)
+
+abbrev pub signedDecimal : ℤ → List ℕ
+signedDecimal = withSign decimal
 
 unfoldable pub items : List ℤ → List ℕ
 items [] = []
@@ -52,9 +56,9 @@ abbrev pub changesLine : List ℤ → ℕ → List ℕ
 changesLine report c = line 67 (pos c ∷ tabulateFrom (λ i. getD report (changeAt c i) (pos 0)) 1 6)
 
 -- for each currency with a curve, in order
-unfoldable pub changesLines : (ℕ → Bool) → List ℤ → ℕ → List ℕ
-changesLines curved report zero = []
-changesLines curved report (suc n) = changesLines curved report n ++ (if curved (suc n) then changesLine report (suc n) else [])
+unfoldable pub curvedLines : (ℕ → Bool) → (ℕ → List ℕ) → ℕ → List ℕ
+curvedLines curved text zero = []
+curvedLines curved text (suc n) = curvedLines curved text n ++ (if curved (suc n) then text (suc n) else [])
 
 -- OVER, WITHIN or CLOSE
 unfoldable pub verdictWord : ℤ → List ℕ
@@ -67,7 +71,7 @@ verdictWord (negsuc n) = 67 ∷ 76 ∷ 79 ∷ 83 ∷ 69 ∷ []
 -- the C lines; S with six sums; M with measure, worst, total tolerance; V with the verdict
 unfoldable pub reportText : ℕ → (ℕ → Bool) → List ℤ → List ℕ
 reportText top curved report =
-    changesLines curved report top
+    curvedLines curved (changesLine report) top
     ++ line 83 (tabulateFrom (λ i. getD report (sumAt top i) (pos 0)) 1 6)
     ++ line 77 (getD report (measureAt top) (pos 0) ∷ getD report (worstAt top) (pos 0) ∷ getD report (toleranceAt top) (pos 0) ∷ [])
     ++ (86 ∷ 32 ∷ verdictWord (getD report (verdictAt top) (pos 0)) ++ (10 ∷ []))

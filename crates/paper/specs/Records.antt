@@ -16,6 +16,9 @@ currencies = 32
 unfoldable pub kinds : List ℕ
 kinds = 9 ∷ 13 ∷ 13 ∷ 82 ∷ 155 ∷ 79 ∷ 26 ∷ 83 ∷ 20 ∷ 81 ∷ []
 
+abbrev pub kindCount : ℕ
+kindCount = 10
+
 -- 0 where there is no such kind
 unfoldable pub bodyLength : ℕ → ℕ
 bodyLength kind = getD (0 ∷ kinds) kind 0

@@ -3,13 +3,15 @@
 ghost use mathlib.Core.List.{[], _∷_};
 ghost use mathlib.Core.Path.{_≡_};
 ghost use Rattle.paper.specs.Ladder.{buckets};
-ghost use Rattle.paper.specs.Records.{currencies};
+ghost use Rattle.paper.specs.Records.{currencies, kindCount};
 ghost use Rattle.paper.specs.Flow.{scenarios, shocked};
 ghost use Rattle.paper.specs.Ledger.{sectionSize, cells, figures};
 ghost use Rattle.paper.specs.TurnedDown.{longestBook};
 ghost use Rattle.paper.specs.Stored.{storedCurrencies};
 
 pub const CURRENCIES: usize = 32;
+
+pub const KINDS: usize = 10;
 
 pub const BUCKETS: usize = 19;
 
@@ -40,11 +42,12 @@ pub const STORED_FIGURES: usize = STORED_CHANGES + 10;
 pub const LONGEST_BOOK: usize = 65528;
 
 // The constants are the paper's numbers.
-fn sizes() -> [usize; 10]
-    ensures { λ r. ⌜ r ≡ currencies ∷ buckets ∷ scenarios ∷ shocked ∷ sectionSize ∷ cells currencies ∷ figures currencies ∷ storedCurrencies ∷ figures storedCurrencies ∷ longestBook ∷ [] ⌝ }
+fn sizes() -> [usize; 11]
+    ensures { λ r. ⌜ r ≡ currencies ∷ kindCount ∷ buckets ∷ scenarios ∷ shocked ∷ sectionSize ∷ cells currencies ∷ figures currencies ∷ storedCurrencies ∷ figures storedCurrencies ∷ longestBook ∷ [] ⌝ }
 {
     [
         CURRENCIES,
+        KINDS,
         BUCKETS,
         SCENARIOS,
         SHOCKED,

@@ -1,4 +1,4 @@
--- Numbers in decimal: the digits are those of the number's tenth, and one more; a sign goes before them; and how many bytes that is.
+-- Numbers in decimal: the digits are those of the number's tenth, and one more; a sign goes before them; hundredths; and how many bytes that is.
 use Prim.Native.Nat.{ℕ, zero, suc, _+_, _/_, _%_, _^_, _≤_, _<_}
 use mathlib.Core.Bool.{Bool, true, false}
 use mathlib.Core.List.{List, [], _∷_, _++_}
@@ -11,7 +11,8 @@ use lib.ListN.{length, length-append}
 use lib.Signed.{ltZ}
 use Rattle.laws.specs.Tests.{if_then_else_, _below_}
 use Rattle.laws.proofs.Order.{ltZ-true, ltZ-false}
-use Rattle.paper.specs.Program.{digitsOf, decimal, signedDecimal}
+use Rattle.paper.specs.Program.{digitsOf, decimal, withSign, signedDecimal}
+use Rattle.paper.specs.Detail.{pointed, pointedLine}
 
 -- ---- the digits
 
@@ -53,17 +54,31 @@ front-length n h m =
 
 -- ---- the sign
 
-pub signed-below : (z : ℤ) → ltZ z (pos 0) ≡ true → signedDecimal z ≡ 45 ∷ decimal (natAbs z)
-unfolding signedDecimal
-signed-below (pos n) t = absurd (omega (arith, ltZ-true (pos n) (pos 0) t))
-signed-below (negsuc n) t = refl
+module _ (text : ℕ → List ℕ) where
+  pub sign-below : (z : ℤ) → ltZ z (pos 0) ≡ true → withSign text z ≡ 45 ∷ text (natAbs z)
+  unfolding withSign
+  sign-below (pos n) t = absurd (omega (arith, ltZ-true (pos n) (pos 0) t))
+  sign-below (negsuc n) t = refl
 
-pub signed-not-below : (z : ℤ) → ltZ z (pos 0) ≡ false → signedDecimal z ≡ decimal (natAbs z)
-unfolding signedDecimal
-signed-not-below (pos n) t = refl
-signed-not-below (negsuc n) t = absurd (omega (arith, ltZ-false (negsuc n) (pos 0) t))
+  pub sign-not-below : (z : ℤ) → ltZ z (pos 0) ≡ false → withSign text z ≡ text (natAbs z)
+  unfolding withSign
+  sign-not-below (pos n) t = refl
+  sign-not-below (negsuc n) t = absurd (omega (arith, ltZ-false (negsuc n) (pos 0) t))
+
+  pub sign-length : (most : ℕ) → ((n : ℕ) → length (text n) ≤ most) → (z : ℤ) → length (withSign text z) ≤ suc most
+  unfolding withSign
+  sign-length most each (pos n) = omega (arith, each n)
+  sign-length most each (negsuc n) = omega (arith, each (suc n))
 
 pub signed-length : (z : ℤ) → length (signedDecimal z) ≤ 21
-unfolding signedDecimal
-signed-length (pos n) = omega (arith, decimal-length n)
-signed-length (negsuc n) = omega (arith, decimal-length (suc n))
+signed-length z = sign-length decimal 20 decimal-length z
+
+-- ---- hundredths
+
+pub pointed-length : (n : ℕ) → length (pointed n) ≤ 23
+unfolding pointed
+pointed-length n = omega (arith, decimal-length (n / 100), length-append (decimal (n / 100)) (46 ∷ (48 + n / 10 % 10) ∷ (48 + n % 10) ∷ []))
+
+pub pointed-line-length : (letter : ℕ) (z : ℤ) → length (pointedLine letter z) ≤ 27
+unfolding pointedLine
+pointed-line-length letter z = omega (arith, sign-length pointed 23 pointed-length z, length-append (withSign pointed z) (10 ∷ []))

@@ -7,7 +7,7 @@ use native.Mathlib.Omega.{arith}
 use lib.IntN.{ℤ, pos}
 use lib.ListN.{length, getD, take, length-append}
 use lib.Seq.{take-suc}
-use Rattle.paper.specs.Program.{decimal, signedDecimal, items, line}
+use Rattle.paper.specs.Program.{decimal, withSign, signedDecimal, items, line}
 use Rattle.text.proofs.Decimals.{signed-length}
 
 pub items-append : (a b : List ℤ) → items (a ++ b) ≡ items a ++ items b
@@ -20,7 +20,7 @@ unfolding items
 item-signed z = append-nil (32 ∷ signedDecimal z)
 
 pub item-natural : (n : ℕ) → items (pos n ∷ []) ≡ 32 ∷ decimal n
-unfolding signedDecimal
+unfolding withSign
 item-natural n = item-signed (pos n)
 
 -- a turn of the loop over them
@@ -37,6 +37,13 @@ pub line-first : (letter : ℕ) (z : ℤ) (l : List ℤ) → line letter (z ∷ 
 unfolding line
 line-first letter z l =
     ap (λ (t : List ℕ). letter ∷ t ++ (10 ∷ [])) (items-append (z ∷ []) l) ∙ append-assoc (letter ∷ items (z ∷ [])) (items l) (10 ∷ [])
+
+-- and one whose first two are
+pub line-two : (letter : ℕ) (y z : ℤ) (l : List ℤ) → line letter (y ∷ z ∷ l) ≡ letter ∷ items (y ∷ []) ++ (items (z ∷ []) ++ (items l ++ (10 ∷ [])))
+line-two letter y z l =
+    line-first letter y (z ∷ l)
+    ∙ ap (λ (t : List ℕ). letter ∷ items (y ∷ []) ++ (t ++ (10 ∷ []))) (items-append (z ∷ []) l)
+    ∙ ap (λ (t : List ℕ). letter ∷ items (y ∷ []) ++ t) (append-assoc (items (z ∷ [])) (items l) (10 ∷ []))
 
 pub line-length : (letter : ℕ) (l : List ℤ) → length (line letter l) ≤ 22 * length l + 2
 unfolding line

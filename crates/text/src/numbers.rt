@@ -4,7 +4,8 @@ use signed::magnitude;
 ghost use Prim.Native.Nat.{_+_, _≤_};
 ghost use mathlib.Core.Path.{_≡_};
 ghost use lib.ListN.{length};
-ghost use Rattle.paper.specs.Program.{decimal, signedDecimal};
+ghost use Rattle.paper.specs.Program.{decimal, withSign, signedDecimal};
+ghost use Rattle.paper.specs.Detail.{pointed};
 ghost use Rattle.text.specs.Written.{Wrote};
 
 // Twenty digits hold every u64. The digits before the last are those of a tenth of the number.
@@ -37,4 +38,27 @@ pub fn put_number(out: &mut [u8], at: usize, z: i64) -> usize
         return put_decimal(out, digits, size);
     }
     put_decimal(out, at, size)
+}
+
+// Hundredths, with two digits after the point.
+fn put_pointed(out: &mut [u8], at: usize, n: u64) -> usize
+    requires { ⌜ at + 23 ≤ length (now out) ⌝ }
+    ensures { λ r. ⌜ Wrote (pointed n) at (now (out .entry)) r (now (out .exit)) ⌝ }
+{
+    let point = put_decimal(out, at, n / 100);
+    let tenths = put_byte(out, point, b'.');
+    let last = put_byte(out, tenths, digit(n / 10 % 10));
+    put_byte(out, last, digit(n % 10))
+}
+
+pub fn put_signed_pointed(out: &mut [u8], at: usize, z: i64) -> usize
+    requires { ⌜ at + 24 ≤ length (now out) ⌝ }
+    ensures { λ r. ⌜ Wrote (withSign pointed z) at (now (out .entry)) r (now (out .exit)) ⌝ }
+{
+    let size = magnitude(z);
+    if z < 0 {
+        let digits = put_byte(out, at, b'-');
+        return put_pointed(out, digits, size);
+    }
+    put_pointed(out, at, size)
 }

@@ -13,7 +13,7 @@ ghost use lib.ListN.{length, drop};
 ghost use Rattle.laws.specs.Tests.{if_then_else_};
 ghost use Rattle.paper.specs.Records.{currencies};
 ghost use Rattle.paper.specs.Ledger.{figures};
-ghost use Rattle.paper.specs.Program.{changesLine, changesLines, verdictWord, reportText};
+ghost use Rattle.paper.specs.Program.{changesLine, curvedLines, verdictWord, reportText};
 ghost use Rattle.arrays.specs.Masks.{curvedBy};
 ghost use Rattle.text.specs.Written.{Wrote};
 ghost use Rattle.text.specs.Longest.{longestText};
@@ -40,7 +40,7 @@ fn put_changes(out: &mut [u8], at: usize, report: &[i64], curved: u32, currency:
 // Currency by currency, from the start of the buffer.
 fn put_all_changes(out: &mut [u8], report: &[i64], curved: u32) -> usize
     requires { ⌜ (length (now report) ≡ figures currencies) × (156 * currencies ≤ length (now out)) ⌝ }
-    ensures { λ r. ⌜ Wrote (changesLines (curvedBy curved) (now (report .entry)) currencies) 0 (now (out .entry)) r (now (out .exit)) ⌝ }
+    ensures { λ r. ⌜ Wrote (curvedLines (curvedBy curved) (changesLine (now (report .entry))) currencies) 0 (now (out .entry)) r (now (out .exit)) ⌝ }
 {
     let mut next = 0;
     for currency in 1..=CURRENCIES as u32 {

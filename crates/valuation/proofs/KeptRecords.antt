@@ -5,12 +5,16 @@ use mathlib.Core.List.{List}
 use mathlib.Core.Path.{_≡_, refl, sym, _∙_}
 use native.Mathlib.Omega.{arith}
 use Rattle.laws.specs.Tests.{first}
+use Rattle.laws.specs.Integers.{up}
 use Rattle.laws.proofs.Tests.{first-none}
+use Rattle.laws.proofs.Integers.{abs-is}
+use Rattle.laws.proofs.Sums.{sum-most, greatest-least}
 use Rattle.paper.specs.Records.{Record, currencies}
 use Rattle.paper.specs.Ledger.{Totals, totals, used, curved}
 use Rattle.paper.specs.TurnedDown.{lacksCurve}
-use Rattle.paper.specs.Change.{netSize}
-use Rattle.paper.specs.Verdict.{reportOf}
+use Rattle.paper.specs.Flow.{shocked}
+use Rattle.paper.specs.Change.{change, netSize}
+use Rattle.paper.specs.Verdict.{scenarioSum, measure, reportOf}
 use Rattle.paper.proofs.Limits.{net-limited, addOn-limited}
 use Rattle.paper.proofs.EmptyCurrency.{unused-cell, unused-addOn}
 use Rattle.paper.proofs.Walk.{Good}
@@ -19,6 +23,9 @@ use Rattle.arrays.specs.Arrays.{arraysOf}
 use Rattle.arrays.specs.Rooms.{totalsBy}
 use Rattle.arrays.proofs.More.{cell-is, addOn-is}
 use Rattle.change.specs.Bounds.{Bounded}
+use Rattle.change.specs.Figures.{mostOfAChange}
+use Rattle.change.proofs.Bounds.{change-most}
+use Rattle.verdict.specs.Figures.{mostOfASum}
 use Rattle.change.proofs.Agreement.{SameCurrency, currency-bounded}
 use Rattle.valuation.specs.Bounds.{Nothing, Bounds}
 use Rattle.valuation.proofs.SameReport.{currency-nothing, totals-report}
@@ -27,7 +34,7 @@ module _ (kept : List Record) where
   abbrev pub arrayTotals : Totals
   arrayTotals = totalsBy (arraysOf kept .ledger) (arraysOf kept .addOns) (arraysOf kept .rates)
 
-  same-kept : (c : ℕ) → 1 ≤ c → c ≤ currencies → SameCurrency (totals kept) c arrayTotals c
+  pub same-kept : (c : ℕ) → 1 ≤ c → c ≤ currencies → SameCurrency (totals kept) c arrayTotals c
   unfolding arraysOf
   same-kept c l h = record {
     rows = λ i m. record {
@@ -47,6 +54,16 @@ module _ (kept : List Record) where
       rows = λ i l. record { net = net-limited (good .limited) c i l; rates = λ k m. good .ranged c i k l m };
       addOns = λ i p l. addOn-limited (good .limited) c i p (omega arith);
     }
+
+    -- a measure is within what 64 bits hold a hundred times over
+    pub kept-measure : measure currencies (change (totals kept)) ≤ mostOfASum
+    unfolding measure scenarioSum
+    kept-measure =
+        greatest-least _ shocked mostOfASum
+        (λ i p l. omega (arith, sum-most (λ c. up (change (totals kept) (suc c) i)) currencies mostOfAChange (λ c _. loss (suc c) i p l)))
+      where
+        loss : (c i : ℕ) → 1 ≤ i → i ≤ shocked → up (change (totals kept) c i) ≤ mostOfAChange
+        loss c i p l = omega (arith, abs-is (change (totals kept) c i), change-most (totals kept) c (kept-bounded c) i p l)
 
     pub kept-bounds : (mask : ℕ) → MaskOf mask (curved kept) → first (lacksCurve kept) 1 currencies ≡ suc currencies → Bounds arrayTotals (curvedBy mask)
     unfolding lacksCurve

@@ -1,5 +1,6 @@
 //! `compare`: see `HELP`.
 
+mod edges;
 mod face;
 mod long;
 mod program;
@@ -13,22 +14,27 @@ mod widening;
 
 use face::Face;
 use program::Program;
+use reference::{irdetail, irreport};
 use std::path::Path;
 use std::process::ExitCode;
 use tally::{Floors, Tally, FACE, PROGRAM};
+use through_program::Printing;
 
 const HELP: &str = "\
 compare face FIRST-SEED CASES -- PIPE          seeded cases through the C face, against the reference
 compare first FIRST-SEED CASES -- PIPE         the same, no further than the first difference
 compare long SECONDS -- PIPE                   the same in batches from fresh seeds, for so long
 compare widen FIRST-SEED SEEDS -- PIPE         stored reports of 58 numbers made into such of 202, through the C face
-compare irreport FIRST-SEED CASES -- IRREPORT  seeded inputs through the report program
-compare streams -- IRREPORT                    the report program with streams that cannot be read or written
+compare irreport FIRST-SEED CASES -- PROGRAM   inputs at the edges, then seeded ones, through the report program
+compare irdetail FIRST-SEED CASES -- PROGRAM   the same through the program that prints the detail as well
+compare first irreport .., first irdetail ..   either of the two, no further than the first input that differs
+compare streams -- PROGRAM                     either of the two with streams that cannot be read or written
 compare inputs FIRST-SEED CASES DIRECTORY      write the seeded inputs as files, with nothing compared
 compare month-end -- PIPE                      the books of a month-end run through the C face; each has to be reported
 compare month-end DIRECTORY                    write their inputs as files, with nothing compared
 
-PIPE starts the C program of face/pipe.c, IRREPORT the report program; either may begin with an emulator.
+PIPE starts the C program of face/pipe.c, PROGRAM one of the two; either may begin with an emulator. The last word of
+PROGRAM is its file, by whose name it speaks of itself.
 Status: 0 no difference and enough compared; 1 a difference, or too little compared; 2 not done.
 The last line says what happened.
 ";
@@ -61,7 +67,7 @@ fn main() -> ExitCode {
 
 fn run(words: &[&str], command: &[String]) -> Result<Ending, String> {
     match (words, command) {
-        (["face" | "first" | "long" | "widen" | "irreport" | "streams", ..] | ["month-end"], []) => {
+        (["face" | "first" | "long" | "widen" | "irreport" | "irdetail" | "streams", ..] | ["month-end"], []) => {
             Err("-- COMMAND is wanted".to_string())
         }
         ([mode @ ("face" | "first"), seed, cases], _) => {
@@ -78,9 +84,11 @@ fn run(words: &[&str], command: &[String]) -> Result<Ending, String> {
             let line = widened.line(&format!("C face, stored reports, seeds from {seed}"));
             Ok(Ending { line, complaint: widened.complaint() })
         }
-        (["irreport", seed, cases], _) => {
-            let tally = through_program::compare(&Program::of(command)?, number(seed)?, number(cases)?);
-            Ok(ending(format!("irreport, seeds from {seed}"), tally, &PROGRAM))
+        ([first @ .., name @ ("irreport" | "irdetail"), seed, cases], _) if matches!(first, [] | ["first"]) => {
+            let due = if *name == "irreport" { irreport } else { irdetail };
+            let printing = Printing { program: Program::of(command)?, due, only_first: !first.is_empty() };
+            let tally = printing.compare(number(seed)?, number(cases)?);
+            Ok(ending(format!("{name}, seeds from {seed}"), tally, &PROGRAM))
         }
         (["streams"], _) => streams(&Program::of(command)?),
         (["inputs", seed, cases, directory], []) => inputs(number(seed)?, number(cases)?, Path::new(directory)),
@@ -88,7 +96,7 @@ fn run(words: &[&str], command: &[String]) -> Result<Ending, String> {
         (["month-end", directory], []) => month_end_inputs(Path::new(directory)),
         (["help" | "--help" | "-h"], []) => Ok(Ending { line: HELP.trim_end().to_string(), complaint: None }),
         _ => {
-            let words = "face, first, long, widen, irreport, streams, inputs, month-end or help";
+            let words = "face, first, long, widen, irreport, irdetail, streams, inputs, month-end or help";
             Err(format!("{words} is wanted, as help says"))
         }
     }
@@ -105,7 +113,8 @@ fn ending(what: String, tally: Tally, floors: &Floors) -> Ending {
 fn streams(program: &Program) -> Result<Ending, String> {
     let (tried, wrong) = streams::check(program)?;
     let complaint = if wrong.is_empty() { None } else { Some(wrong.join("\ncompare: failed: ")) };
-    Ok(Ending { line: format!("irreport, bad streams: {tried} tried, {} treated wrongly", wrong.len()), complaint })
+    let line = format!("{}, bad streams: {tried} tried, {} treated wrongly", program.name(), wrong.len());
+    Ok(Ending { line, complaint })
 }
 
 fn inputs(first_seed: u64, cases: u64, directory: &Path) -> Result<Ending, String> {

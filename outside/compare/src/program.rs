@@ -1,8 +1,9 @@
-//! The report program, started once for each input; and the ways an input can reach it.
+//! A program that prints what an input comes to, started once for each input; and the ways an input can reach it.
 
 use std::io::{ErrorKind, Write};
+use std::path::Path;
 use std::process::{Child, ChildStdin, Command, Output, Stdio};
-use std::thread::sleep;
+use std::thread::{scope, sleep};
 use std::time::Duration;
 
 /// How an input is written into the program's standard input.
@@ -42,16 +43,26 @@ impl Program {
         Program { command: [&shell[..], &self.command].concat() }
     }
 
+    /// What it is called: the name of the file that the command's last word is, behind an emulator or not.
+    pub fn name(&self) -> &str {
+        let last = self.command.last().map(Path::new);
+        last.and_then(Path::file_name).and_then(|name| name.to_str()).unwrap_or_default()
+    }
+
+    /// Its output is taken while its input is written: a detail is longer than a pipe holds, and nothing is known of when
+    /// a wrong program prints, so that one after the other each could wait for the other.
     pub fn run(&self, input: &[u8], manner: Manner) -> Result<Output, String> {
         let mut child = self.start(Stdio::piped(), Stdio::piped())?;
         let stdin = child.stdin.take().expect("asked for");
-        feed(stdin, input, manner)?;
-        child.wait_with_output().map_err(|error| error.to_string())
+        scope(|scope| {
+            let fed = scope.spawn(move || feed(stdin, input, manner));
+            let output = child.wait_with_output().map_err(|error| error.to_string());
+            fed.join().expect("feeding panics nowhere").and(output)
+        })
     }
 }
 
-/// Writes the input and closes the pipe. A program that has read enough may leave the rest; it prints little, so
-/// that its own output never waits for us.
+/// Writes the input and closes the pipe. A program that has read enough may leave the rest.
 pub fn feed(mut stdin: ChildStdin, input: &[u8], manner: Manner) -> Result<(), String> {
     let size = match manner {
         Manner::AtOnce => input.len().max(1),

@@ -35,7 +35,7 @@ pub struct Floors {
 
 /// In 20,000 cases each number comes 100 times, or the run fails.
 pub const FACE: Floors = Floors { never: None, shortest: 10_000, once_in: 200, judged: true };
-/// The report program has no rooms to be too short: it never gives 18.
+/// The two programs have no rooms to be too short: they never give 18.
 pub const PROGRAM: Floors = Floors { never: Some(18), shortest: 500, once_in: 500, judged: false };
 
 pub fn is_in_many(result: &Return) -> bool {

@@ -5,7 +5,7 @@ use crate::discount::{exact_factor, exponent};
 use crate::fraction::Fraction;
 use crate::ladder::BUCKETS;
 use crate::layout::{CURRENCIES, SCENARIOS};
-use crate::report::{Return, Verdict};
+use crate::report::{Return, Verdict, LIMIT};
 use crate::walk::Positions;
 
 pub struct Exact {
@@ -37,7 +37,7 @@ impl Exact {
         if !within(&self.measure, result.measure, result.total_tolerance) {
             return Some("measure".to_string());
         }
-        let over = self.measure.times(100) > Fraction::whole(15 * capital);
+        let over = self.measure.times(100) > Fraction::whole(LIMIT * capital);
         match (result.verdict, over) {
             (Verdict::Over, false) | (Verdict::Within, true) => Some(format!("verdict {:?}", result.verdict)),
             _ => None,

@@ -8,8 +8,12 @@ pub const CAPITAL_BYTES: usize = 8;
 
 /// The whole output for the whole input: T in eight bytes, then the book.
 pub fn irreport(input: &[u8]) -> String {
-    match answer_input(input) {
-        Answer::Accepted(result) => accepted(&result),
+    lines(&answer_input(input))
+}
+
+pub fn lines(answer: &Answer) -> String {
+    match answer {
+        Answer::Accepted(result) => accepted(result),
         Answer::Refused(refusal) => format!("R {} {}\n", refusal.number, refusal.place),
     }
 }
@@ -45,6 +49,7 @@ fn accepted(result: &Return) -> String {
     text + &format!("S{}\nM{measure}\nV {verdict}\n", spaced(&result.sums))
 }
 
-fn spaced(numbers: &[i64]) -> String {
+/// Each number after a space.
+pub fn spaced(numbers: &[i64]) -> String {
     numbers.iter().map(|number| format!(" {number}")).collect()
 }

@@ -3,7 +3,7 @@
 //! listed shocks stand as the Committee prints them.
 //!
 //! `Request::answer` is the product's call on a book; `Answer::fill` says what the rooms then hold; `widen` is its call on a
-//! stored report; `irreport` is the report program; `Exact` has the exact changes and the exact measure.
+//! stored report; `irreport` and `irdetail` are the two programs; `Exact` has the exact changes and the exact measure.
 
 mod answer;
 mod curve;
@@ -12,6 +12,7 @@ mod exact;
 mod fields;
 mod flows;
 mod fraction;
+mod irdetail;
 mod irreport;
 mod ladder;
 mod layout;
@@ -31,11 +32,12 @@ pub use exact::Exact;
 pub use fields::{periods_start, LAST_MONTH, RATES};
 pub use flows::{flows, Flows, CORE_CAPS, GREATEST_GROSS};
 pub use fraction::Fraction;
+pub use irdetail::irdetail;
 pub use irreport::{answer_input, irreport, split_input, CAPITAL_BYTES};
 pub use ladder::{bucket_index, width, BUCKETS, MIDPOINTS, UPPER_ENDS};
 pub use layout::{split, step, Field, Item, Kind, Record, Step, CURRENCIES, KINDS, SCENARIOS};
 pub use refusal::Refusal;
-pub use report::{Return, Verdict, REPORT_CELLS};
+pub use report::{Return, Verdict, LIMIT, REPORT_CELLS};
 pub use shock_lists::{listed, listed_shocks, Code, Listed};
 pub use stored::{widen, STORED_CELLS, STORED_CURRENCIES};
 pub use walk::{cell, Positions, LEDGER_CELLS};

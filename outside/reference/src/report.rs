@@ -14,6 +14,9 @@ pub const fn report_cells(currencies: usize) -> usize {
     currencies * SCENARIOS + SCENARIOS + 4
 }
 
+/// Of Tier 1 capital, in per cent.
+pub const LIMIT: i64 = 15;
+
 const BILLION: i128 = 1_000_000_000;
 /// What a computed factor may be off, in billionths.
 const FACTOR_TOLERANCE: i128 = 26;
@@ -119,9 +122,9 @@ fn worst(sums: &PerScenario, measure: i64) -> i64 {
 }
 
 fn verdict(measure: i64, tolerance: i64, capital: i64) -> Verdict {
-    if 100 * (measure - tolerance) > 15 * capital {
+    if 100 * (measure - tolerance) > LIMIT * capital {
         Verdict::Over
-    } else if 100 * (measure + tolerance) <= 15 * capital {
+    } else if 100 * (measure + tolerance) <= LIMIT * capital {
         Verdict::Within
     } else {
         Verdict::Close

@@ -1,19 +1,19 @@
 -- `fill_currency` meets its contract: the currency's own parts are read as currency 1's, and what comes back stands in its place of each list.
 use Prim.Native.Nat.{ℕ, _+_, _*_, _-_}
-use mathlib.Core.List.{List, []}
+use mathlib.Core.List.{List}
 use mathlib.Core.Path.{_≡_, sym, ap, _∙_}
 use native.Mathlib.Omega.{arith}
-use lib.IntN.{ℤ, pos}
+use lib.IntN.{ℤ}
 use Rattle.laws.specs.Lists.{tabulateFrom, section, splice}
 use Rattle.laws.proofs.Lists.{tabulateFrom-ext}
 use Rattle.laws.proofs.Sections.{length-section}
 use Rattle.paper.specs.Flow.{shocked}
 use Rattle.paper.specs.Ledger.{sectionSize, Totals}
-use Rattle.paper.specs.Change.{change, tolerance}
+use Rattle.paper.specs.Change.{change}
 use Rattle.arrays.specs.Rooms.{totalsBy}
 use Rattle.change.specs.Bounds.{Bounded}
-use Rattle.change.proofs.Agreement.{SameCurrency, currency-bounded, change-same, tolerance-same}
-use Rattle.change.proofs.CurrencyParts.{net-alone, tolerance-alone, part-of}
+use Rattle.change.proofs.Agreement.{SameCurrency, currency-bounded, change-same}
+use Rattle.change.proofs.CurrencyParts.{part-of, part-net, part-tolerances}
 use borrow.Author.Needs.{needs}
 use Rattle.change.proofs.fill_currency.Statement.{statement}
 use Rattle.change.proofs.fill_currency.Tie as tie
@@ -52,10 +52,6 @@ module _ (s : tie.Start) where
 
   six-changes : tabulateFrom (change own 1) 1 shocked ≡ tabulateFrom (change t (c₀ + 1)) 1 shocked
   six-changes = tabulateFrom-ext _ _ 1 shocked (λ i p l. sym (change-same same i p (omega arith)))
-
-  six-tolerances : tabulateFrom (λ i. pos (tolerance (totalsBy cells [] []) 1 i)) 1 shocked ≡ tabulateFrom (λ i. pos (tolerance t (c₀ + 1) i)) 1 shocked
-  six-tolerances =
-      tabulateFrom-ext _ _ 1 shocked (λ i p l. ap pos (sym (tolerance-same same i p (omega arith) ∙ tolerance-alone cells addOns rates 1 i)))
 
 mul-start : tie.Need-mul-start
 mul-start c = search needs
@@ -162,7 +158,7 @@ fill-tolerances-requires c κs =
         length-section (sectionSize * c₀ s) sectionSize (s .args .ledger .now) (omega arith),
         length-section (shocked * c₀ s) shocked (s .args .tolerances .now) (omega arith),
       ),
-      λ i l. omega (arith, net-alone (cells s) (addOns s) (rates s) 1 i, bounded s .rows i l .net),
+      λ i l. omega (arith, part-net (s .args .ledger .now) (s .args .rates .now) (s .args .add-ons .now) (c₀ s) i l, s .pre .1 .1 .0 .rows i l .net),
     )
 
 same-length : tie.Need-same-length
@@ -178,7 +174,7 @@ returns c =
     let tolerated = rw (cells-count s) at (c .before .fill-tolerances .ensures) in
     rw (six-count s) (
       ap (λ (l : List ℤ). splice (shocked * c₀ s) shocked (s .args .changes .now) l) (filled ∙ six-changes s),
-      ap (λ (l : List ℤ). splice (shocked * c₀ s) shocked (s .args .tolerances .now) l) (tolerated ∙ six-tolerances s),
+      ap (λ (l : List ℤ). splice (shocked * c₀ s) shocked (s .args .tolerances .now) l) (tolerated ∙ part-tolerances (s .args .ledger .now) (s .args .rates .now) (s .args .add-ons .now) (c₀ s)),
     )
 
 pub fill-currency-spec : {M : Type 1} → statement M

@@ -1,5 +1,6 @@
 //! The reference against documents 01 and 02, paragraph by paragraph.
 
+mod detail;
 mod factors;
 mod hand;
 mod listed;

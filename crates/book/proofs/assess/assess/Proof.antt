@@ -63,7 +63,7 @@ assess-records-requires c κs =
     let rooms = capital .before .before in
     let start = rooms .before .before .before in
     let long = room-enough _ _ (sym (rooms .before .room-too-small .ensures) ∙ rooms .if1 .left) in
-    (capital-fits _ (sym (capital .bad-capital .ensures) ∙ c .before .before .if3 .left), (length-take-le (figures currencies) (start .args .report .now) (long .0), length-take-le (cells currencies) (start .args .ledger .now) (long .1)))
+    (capital-fits _ (sym (capital .bad-capital .ensures) ∙ c .before .before .if3 .left) .1, (length-take-le (figures currencies) (start .args .report .now) (long .0), length-take-le (cells currencies) (start .args .ledger .now) (long .1)))
 
 same-length : tie.Need-same-length
 same-length c = search needs

@@ -48,8 +48,8 @@ fill-report-requires c κs =
     let start = c .before .before .before .before .before .before .before .before .before .before .before .before .before .before .before .before .before .before .before .before .before .before .before .before in
     let loads = c .before .before .before .before .before .before .before .before .before .before .before .before .before .before .load .ensures in
     let all = loads .all _ (c .before .before .before .before .before .before .before .curved .given .1) in
-    let sized = all-sized _ (start .args .tier1 .0) (start .args .report .now) (start .args .ledger .now) (start .pre .1 .1) _ _ (loads .arrays) all in
-    let bounds = bounds-hold _ (start .args .tier1 .0) (start .args .report .now) (start .args .ledger .now) (start .pre .1 .1) _ _ (loads .arrays) all in
+    let sized = all-sized _ _ _ (loads .arrays) all in
+    let bounds = bounds-hold _ _ _ (loads .arrays) all in
     ((sized .ledger-long, sized .rates-long, sized .addOns-long, start .pre .1 .0), ((start .pre .0, c .before .before .before .before .before .table .ensures), bounds))
 
 same-length : tie.Need-same-length

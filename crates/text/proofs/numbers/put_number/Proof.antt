@@ -1,8 +1,9 @@
 -- The sign below zero, then the digits of the magnitude.
 use borrow.Author.Needs.{needs}
 use mir.Facts.{toZ-ofZ}
+use Rattle.paper.specs.Program.{decimal}
 use Rattle.text.proofs.Writing.{wrote-then}
-use Rattle.text.proofs.Decimals.{signed-below, signed-not-below}
+use Rattle.text.proofs.Decimals.{sign-below, sign-not-below}
 use Rattle.text.proofs.numbers.put_number.Statement.{statement}
 use Rattle.text.proofs.numbers.put_number.Tie as tie
 
@@ -23,7 +24,7 @@ returns c =
     let s = c .before .before .before .before .before .before .before .before .before .before .before in
     let below = rw (toZ-ofZ (s .fits .z)) at (c .before .before .before .before .before .before .before .before .if1 .taken) in
     let size = rw (toZ-ofZ (s .fits .z)) at (c .before .before .before .before .before .before .before .before .before .magnitude .ensures) in
-    rw (signed-below (s .args .z) below, ← size)
+    rw (sign-below decimal (s .args .z) below, ← size)
     (wrote-then (c .before .before .before .before .before .before .put-byte .ensures) (c .before .before .put-decimal .ensures))
 
 put-decimal-requires-2 : tie.Need-put-decimal-requires-2
@@ -37,7 +38,7 @@ returns-2 c =
     let s = c .before .before .before .before .before .before .before in
     let not-below = rw (toZ-ofZ (s .fits .z)) at (c .before .before .before .before .if1 .left) in
     let size = rw (toZ-ofZ (s .fits .z)) at (c .before .before .before .before .before .magnitude .ensures) in
-    rw (signed-not-below (s .args .z) not-below, ← size)
+    rw (sign-not-below decimal (s .args .z) not-below, ← size)
     (c .before .before .put-decimal2 .ensures)
 
 pub put-number-spec : {M : Type 1} → statement M

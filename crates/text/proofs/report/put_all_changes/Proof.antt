@@ -5,23 +5,24 @@ use native.Mathlib.Omega.{arith}
 use borrow.Author.Needs.{needs}
 use lib.ListN.{length}
 use Rattle.paper.specs.Records.{currencies}
-use Rattle.paper.specs.Program.{changesLines}
+use Rattle.paper.specs.Program.{changesLine, curvedLines}
 use Rattle.arrays.specs.Masks.{curvedBy}
 use Rattle.text.specs.Written.{Wrote}
 use Rattle.text.proofs.Writing.{wrote-none, wrote-then}
-use Rattle.text.proofs.Figures.{changes-more, changes-length}
+use Rattle.text.proofs.Figures.{changes-length}
+use Rattle.text.proofs.CurvedLines.{lines-more, lines-length}
 use Rattle.text.proofs.report.put_all_changes.Statement.{statement}
 use Rattle.text.proofs.report.put_all_changes.Tie as tie
 
 abbrev Inv-loop : tie.InvT-loop
 Inv-loop out₀ report curved next₀ currency₀ out next currency =
-    (1 ≤ currency) × (currency ≤ suc currencies) × (length out ≡ length out₀) × Wrote (changesLines (curvedBy curved) report (currency - 1)) 0 out₀ next out
+    (1 ≤ currency) × (currency ≤ suc currencies) × (length out ≡ length out₀) × Wrote (curvedLines (curvedBy curved) (changesLine report) (currency - 1)) 0 out₀ next out
 
 abbrev μ-loop : tie.MeasureT-loop
 μ-loop out₀ report curved next₀ currency₀ out next currency = suc currencies - currency
 
 loop-holds : tie.Need-loop-holds Inv-loop μ-loop
-unfolding changesLines
+unfolding curvedLines
 loop-holds c = (search needs, search needs, refl, wrote-none _ _)
 
 put-changes-requires : tie.Need-put-changes-requires Inv-loop μ-loop
@@ -29,7 +30,7 @@ put-changes-requires c κs =
     let s = c .before .before .before .before in
     let done = c .before .before .loop .currency - 1 in (
       (search needs, search needs),
-      (search needs, omega (arith, changes-length (curvedBy (s .args .curved)) (s .args .report .now) done)),
+      (search needs, omega (arith, lines-length (curvedBy (s .args .curved)) (changesLine (s .args .report .now)) 156 (λ n. changes-length (s .args .report .now) n) done)),
     )
 
 add-currency : tie.Need-add-currency Inv-loop μ-loop
@@ -45,7 +46,7 @@ loop-again c =
       omega arith,
       omega arith,
       omega arith,
-      rw (changes-more (curvedBy (s .args .curved)) (s .args .report .now) (loop .currency) (omega arith))
+      rw (lines-more (curvedBy (s .args .curved)) (changesLine (s .args .report .now)) (loop .currency) (omega arith))
           (wrote-then (loop .inv .3) (c .before .before .put-changes .ensures)),
     )
 
