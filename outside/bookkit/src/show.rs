@@ -1,12 +1,10 @@
 //! From bytes to the text form. Everything but the records is a comment, which `make` passes over.
 
+use crate::trade::{LISTED_CURVE, RECOLLECTED};
 use crate::values;
 use reference::{answer_input, shocks, split_input, step, Answer, Field, Record, Refusal, Request, Step};
 
 const RAW_BYTES_IN_A_LINE: usize = 16;
-const LISTED_CURVE: u8 = 10;
-const RECOLLECTED: &str = "; edition 2 was entered from recollection and must be held against the published table \
-                           (BCBS d578, July 2024) before filing";
 
 pub struct Listing {
     pub text: String,
@@ -71,7 +69,7 @@ fn marked(refusal: &Refusal) -> String {
     format!("# >>> R {number} {place}: {because}. More: bookkit explain {number}\n")
 }
 
-fn record_line(record: &Record) -> String {
+pub fn record_line(record: &Record) -> String {
     line_before(record, None)
 }
 
@@ -83,8 +81,8 @@ fn remark(record: &Record) -> String {
     let used = shocks(record).map(|[parallel, short, long]| {
         format!("; its shocks, as listed: parallel {parallel}, short {short}, long {long}")
     });
-    let doubt = (record.one("edition") == 2).then_some(RECOLLECTED);
-    used.unwrap_or_default() + doubt.unwrap_or_default()
+    let doubt = (record.one("edition") == 2).then(|| format!("; {RECOLLECTED}"));
+    used.unwrap_or_default() + &doubt.unwrap_or_default()
 }
 
 /// The line of a record, up to a field if one is named.

@@ -147,7 +147,11 @@ fn each_number_is_explained_and_no_other() {
     for number in 1..=20 {
         let text = explain(number).expect("an explanation");
         let lines: Vec<&str> = text.lines().collect();
-        assert!(lines.len() == 3 && lines[0].starts_with(&format!("{number}: ")), "{text}");
+        assert!(lines.len() > 4 && lines[0].starts_with(&format!("{number}: ")), "{text}");
+        assert!(
+            lines[3] == "What usually causes it:" && lines[4..].iter().all(|line| line.starts_with("- ")),
+            "{text}"
+        );
         let place = match number {
             3 | 4 | 6 | 7 | 8 => "Its place: the first byte of the field.",
             5 => "Its place: the first byte of the field; of the count where the last month is too late.",

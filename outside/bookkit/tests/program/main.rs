@@ -1,8 +1,11 @@
 //! The program itself, as a shell starts it.
 
 mod command;
+mod inbox;
 mod limits;
 mod recognised;
+mod report;
+mod stand_in;
 mod streams;
 mod targets;
 mod words;

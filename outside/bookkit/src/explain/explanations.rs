@@ -1,21 +1,30 @@
-//! What each refusal number means, what its place is and what to look at.
+//! The refusal numbers, each said once.
 
-struct Explanation {
-    number: u8,
-    meaning: &'static str,
-    place: &'static str,
-    look_at: &'static str,
-}
-
-const fn number(number: u8, meaning: &'static str, place: &'static str, look_at: &'static str) -> Explanation {
-    Explanation { number, meaning, place, look_at }
-}
+use super::Explanation;
 
 const RECORD: &str = "the record's first byte";
 const FIELD: &str = "the first byte of the field";
 const NOUGHT: &str = "always 0";
 
-static EXPLANATIONS: [Explanation; 20] = [
+/// The cause of any number that a field earns.
+const SHIFT: &str = "A dropped or doubled byte further up shifts everything after it, and the first bad field may lie far \
+                     behind it. Then the records before this one make no sense either, and the size of the file is not that \
+                     at its source.";
+const BYTE_ORDER: &str =
+    "The export wrote the lowest byte first: then other numbers of the file are far too great as well.";
+const UNITS: &str = "Money was exported in units in place of thousands.";
+
+const fn number(
+    number: u8,
+    meaning: &'static str,
+    place: &'static str,
+    look_at: &'static str,
+    causes: &'static [&'static str],
+) -> Explanation {
+    Explanation { number, meaning, place, look_at, causes }
+}
+
+pub static EXPLANATIONS: [Explanation; 20] = [
     number(
         1,
         "unknown kind: where a record should begin, the byte is not a kind from 1 to 10.",
@@ -23,19 +32,28 @@ static EXPLANATIONS: [Explanation; 20] = [
         "Look at the byte at the place. At place 0: does the file begin with capital? Then use bookkit show \
          --input. Later on: is the record before it of the length that its kind asks for, or did bytes get \
          lost?",
+        &[SHIFT, "The export put a header, a line end or padding before or between records: a book has neither."],
     ),
     number(
         2,
         "body cut short: the book ends inside the last record.",
         RECORD,
         "Compare the length of the file with that at its source: most often its end got lost.",
+        &["The transfer broke off: the file is shorter than at its source.", SHIFT],
     ),
-    number(3, "bad currency: it has to be 1 to 32.", FIELD, "Look at the byte at the place, the second of its record."),
+    number(
+        3,
+        "bad currency: it has to be 1 to 32.",
+        FIELD,
+        "Look at the byte at the place, the second of its record.",
+        &[SHIFT, "Currencies are numbered from 0 on, or by another list: a book numbers its own from 1 to 32."],
+    ),
     number(
         4,
         "bad side: it has to be 1 or 2 (asset or liability; for an option add-on sold or bought).",
         FIELD,
         "Look at the byte at the place, the third of its record.",
+        &[SHIFT, "Sides are exported as 0 and 1, or as letters."],
     ),
     number(
         5,
@@ -44,6 +62,12 @@ static EXPLANATIONS: [Explanation; 20] = [
         "the first byte of the field; of the count where the last month is too late",
         "Days from 31 on belong into months. Terms beyond 50 years cannot be reported. The spread of a \
          floating-spread falls a period after the reset for the first time.",
+        &[
+            "Terms are exported in days alone, or from another date than the reporting date.",
+            "A position without an end was exported with a term far away.",
+            BYTE_ORDER,
+            SHIFT,
+        ],
     ),
     number(
         6,
@@ -52,24 +76,32 @@ static EXPLANATIONS: [Explanation; 20] = [
         FIELD,
         "Look for money given in units in place of thousands, or for a minus sign: amounts carry none, the \
          side says it.",
+        &[UNITS, "An amount below nil was written: read without a sign it is above 2,000,000,000.", BYTE_ORDER, SHIFT],
     ),
     number(
         7,
         "share above 10,000: shares are hundredths of a per cent, 10,000 being all.",
         FIELD,
         "Look for a share on another scale.",
+        &["Shares are exported in hundred-thousandths or millionths.", BYTE_ORDER, SHIFT],
     ),
     number(
         8,
         "bad category: a non-maturity deposit is of category 1, 2 or 3.",
         FIELD,
         "Look at the byte at the place, the third of its record.",
+        &["Categories are numbered from 0 on, or by the bank's own list.", SHIFT],
     ),
     number(
         9,
         "core above its cap: at most 90, 70 or 50 per cent of the total for category 1, 2 or 3.",
         RECORD,
         "Add up the 19 core amounts and compare with the total. Equality passes.",
+        &[
+            "The total was exported without the core, or in thousands where the core is in units.",
+            "The deposits carry another category's number.",
+            "The bank's own model has a larger core than the supervisor allows: then the core has to be cut.",
+        ],
     ),
     number(
         10,
@@ -77,6 +109,11 @@ static EXPLANATIONS: [Explanation; 20] = [
          2 or 3.",
         RECORD,
         "Weigh the core amounts with the midpoints of their buckets; look for core in buckets too far out.",
+        &[
+            "Buckets are counted from 0 in the export, so that all core lies one bucket too far out.",
+            "The deposits carry another category's number.",
+            "The bank's own model runs longer than the supervisor allows: then the core has to be moved.",
+        ],
     ),
     number(
         11,
@@ -84,12 +121,18 @@ static EXPLANATIONS: [Explanation; 20] = [
          scheduled principal.",
         "the first byte of the interest, the lowest such bucket's",
         "Look at the buckets after the last principal of the loan: interest has to end with it.",
+        &[
+            "The last principals were left out.",
+            "Principals and interests are exported with buckets that are counted differently.",
+            SHIFT,
+        ],
     ),
     number(
         12,
         "second curve: the currency has a curve from an earlier record, a curve or a listed-curve.",
         RECORD,
         "Look for two curves of one currency, or a curve with another currency's number.",
+        &["Two exports with the same curve were put into one book.", "A curve carries another currency's number."],
     ),
     number(
         13,
@@ -98,6 +141,12 @@ static EXPLANATIONS: [Explanation; 20] = [
         "the first byte of the rate or the shock; for a shocked rate, of the base rate in the lowest bucket that has \
          one out of range in some scenario",
         "If the rates and shocks themselves are in range, a shock takes a rate out of it.",
+        &[
+            "Rates are exported on another scale: 2 per cent is 20,000.",
+            "Shocks are exported in millionths: 200 basis points is 200.",
+            BYTE_ORDER,
+            SHIFT,
+        ],
     ),
     number(
         14,
@@ -106,6 +155,7 @@ static EXPLANATIONS: [Explanation; 20] = [
          1,000,000,000.",
         RECORD,
         "Magnitudes are added before netting: an asset and a liability do not set each other off.",
+        &[UNITS, "Records were exported twice.", BYTE_ORDER],
     ),
     number(
         15,
@@ -113,6 +163,11 @@ static EXPLANATIONS: [Explanation; 20] = [
         "the lowest such currency, which is no byte",
         "Add the currency's curve, or look for a position with a wrong currency. A position of nil uses its \
          currency too.",
+        &[
+            "The curves come from another system and were not put into the book.",
+            "A position carries another currency's number.",
+            "The end of the book got lost at a record's end, and a curve with it: compare the size of the file with its source.",
+        ],
     ),
     number(
         16,
@@ -121,12 +176,18 @@ static EXPLANATIONS: [Explanation; 20] = [
         NOUGHT,
         "Look at the first 8 bytes of the input: capital comes before the book, highest byte first, in \
          thousands.",
+        &[
+            "The book was exported without its capital: then its first record is read as capital.",
+            BYTE_ORDER,
+            "This is another file than was meant.",
+        ],
     ),
     number(
         17,
         "book too long: a book has at most 65,528 bytes, an input of irreport 65,536.",
         NOUGHT,
         "Single flows of one currency, side and term can be added up into one record.",
+        &["Positions are exported one by one.", "Several books were put into one file.", "This is another file than was meant."],
     ),
     number(
         18,
@@ -134,6 +195,7 @@ static EXPLANATIONS: [Explanation; 20] = [
          4,256; or the stored report that was to be widened has not exactly 58 numbers.",
         NOUGHT,
         "This is about the calling program, not the book; irreport itself never gives it.",
+        &["The calling program was built when there were 8 currencies."],
     ),
     number(
         19,
@@ -141,6 +203,7 @@ static EXPLANATIONS: [Explanation; 20] = [
          recalibration of 2024.",
         RECORD,
         "Look at the third byte of the record. It is the number 1 or 2, not the letter.",
+        &["The edition is exported as a letter: 31 in hexadecimal is the letter 1.", SHIFT],
     ),
     number(
         20,
@@ -148,11 +211,6 @@ static EXPLANATIONS: [Explanation; 20] = [
         RECORD,
         "Look at the fourth to the sixth byte of the record: three capital letters, as EUR. docs/format.md has the \
          codes of each edition. The shocks of a currency that has none can be given in a curve.",
+        &["The code is in small letters, or has a blank.", "The edition does not list this currency.", SHIFT],
     ),
 ];
-
-/// What a refusal number means; nothing for a number that is none.
-pub fn explain(number: u8) -> Option<String> {
-    let found = EXPLANATIONS.iter().find(|explanation| explanation.number == number)?;
-    Some(format!("{number}: {}\nIts place: {}.\n{}\n", found.meaning, found.place, found.look_at))
-}
