@@ -93,12 +93,24 @@ pub fn put_currency(
     requires { ⌜ ((i : ℕ) → i < scenarios → netSize (totalsBy (now ledger) [] []) currency i ≤ billion) ⌝ }
     ensures { λ r. ⌜ Wrote (currencyBy (now (ledger .entry)) (now (rates .entry)) (now («add_ons» .entry)) (now (counts .entry)) currency) at (now (out .entry)) r (now (out .exit)) ⌝ }
 {
-    let six = SHOCKED * (currency as usize - 1);
-    let seven = six + SHOCKED;
-    let ten = KINDS * (currency as usize - 1);
-    let eleven = ten + KINDS;
+    let adds_from = SHOCKED * (currency as usize - 1);
+    let adds_to = adds_from + SHOCKED;
+    let counts_from = KINDS * (currency as usize - 1);
+    let counts_to = counts_from + KINDS;
     let scenarios = put_tolerances(out, at, ledger, currency);
     let adds = put_scenarios(out, scenarios, ledger, rates, currency);
-    let kinds = put_headed_line(out, adds, b'A', currency as u64, &add_ons[six..seven]);
-    put_headed_line(out, kinds, b'K', currency as u64, &counts[ten..eleven])
+    let kinds = put_headed_line(
+        out,
+        adds,
+        b'A',
+        currency as u64,
+        &add_ons[adds_from..adds_to],
+    );
+    put_headed_line(
+        out,
+        kinds,
+        b'K',
+        currency as u64,
+        &counts[counts_from..counts_to],
+    )
 }

@@ -18,23 +18,23 @@ use borrow.Author.Needs.{needs}
 use Rattle.detail.proofs.currency.put_currency.Statement.{statement}
 use Rattle.detail.proofs.currency.put_currency.Tie as tie
 
-sub-six : tie.Need-sub-six
-sub-six c = search needs
+sub-adds-from : tie.Need-sub-adds-from
+sub-adds-from c = search needs
 
-mul-six : tie.Need-mul-six
-mul-six c = search needs
+mul-adds-from : tie.Need-mul-adds-from
+mul-adds-from c = search needs
 
-add-seven : tie.Need-add-seven
-add-seven c = search needs
+add-adds-to : tie.Need-add-adds-to
+add-adds-to c = search needs
 
-sub-ten : tie.Need-sub-ten
-sub-ten c = search needs
+sub-counts-from : tie.Need-sub-counts-from
+sub-counts-from c = search needs
 
-mul-ten : tie.Need-mul-ten
-mul-ten c = search needs
+mul-counts-from : tie.Need-mul-counts-from
+mul-counts-from c = search needs
 
-add-eleven : tie.Need-add-eleven
-add-eleven c = search needs
+add-counts-to : tie.Need-add-counts-to
+add-counts-to c = search needs
 
 put-tolerances-requires : tie.Need-put-tolerances-requires
 put-tolerances-requires c κs =
@@ -118,12 +118,12 @@ pub put-currency-spec : {M : Type 1} → statement M
 put-currency-spec =
     tie.close
     (tie.spec
-    sub-six
-    mul-six
-    add-seven
-    sub-ten
-    mul-ten
-    add-eleven
+    sub-adds-from
+    mul-adds-from
+    add-adds-to
+    sub-counts-from
+    mul-counts-from
+    add-counts-to
     put-tolerances-requires
     put-scenarios-requires
     mul-put-headed-line
