@@ -1,4 +1,5 @@
 // Cases that are written as text, for `vectors`: the head of its file stdin says how.
+#![tactic(auto)]
 mod bytes;
 mod scan;
 

@@ -1,4 +1,5 @@
 // Standard input, read to its end into a room that the caller lends.
+#![tactic(auto)]
 ghost use Rattle.std.specs.Prelude.{◌≡◌, ℕ, ◌≤◌, length};
 ghost use Rattle.input.specs.declared.Input.TheVariants.{Bytes};
 

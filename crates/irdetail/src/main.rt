@@ -1,4 +1,5 @@
 // Reads T and a book from standard input and prints the report and what stands behind it, or the line of the refusal.
+#![tactic(auto)]
 use detailing::{LONGEST_DETAIL, print_detail};
 use input::{Input, read_input};
 use libc::{STDERR_FILENO, STDOUT_FILENO};

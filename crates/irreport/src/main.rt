@@ -1,4 +1,5 @@
 // Reads T and a book from standard input and prints the report, or the line of the refusal (01, "The report program").
+#![tactic(auto)]
 use input::{Input, read_input};
 use libc::{STDERR_FILENO, STDOUT_FILENO};
 use printing::print_answer;

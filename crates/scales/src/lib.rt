@@ -1,4 +1,5 @@
 // Rates, midpoints and money are counted on three scales (01, "What the product covers").
+#![tactic(auto)]
 ghost use Rattle.std.specs.Prelude.{◌≡◌, pos};
 
 // Rates.

@@ -1,4 +1,5 @@
 // Signed whole numbers: magnitudes, and billionths rounded.
+#![tactic(auto)]
 ghost use Rattle.std.specs.Prelude.{◌≡◌, ◌*◌, ◌≤◌, nat_abs};
 ghost use Rattle.laws.specs.Nearest.{nearest_ℤ};
 ghost use Rattle.paper.specs.Scales.{billion};

@@ -1,5 +1,6 @@
 // Runs the numbers of 01 that are not marked P, and each refusal with its place: the cases are in the file stdin.
 // The stored output was worked out from 01, not taken from a run.
+#![tactic(auto)]
 mod rooms;
 mod show;
 
