@@ -45,25 +45,25 @@ module _ {A F : Type 0} (holds : A → F) (lacks : Fault → F) where
   lacking asked given apart {m = refused q o} p e h = refused-for (h ∙ ap asked p ∙ given _)
 
 pub value : {m : Checked ℕ} {r : Field} {x : ℕ} → r ≡ field_of m → r ≡ natural.Value x → m ≡ accepted x
-value = reads _ _ natural.Value (λ x. x) (λ x y e. cc) (λ f y e. cc)
+value = reads _ _ natural.Value (λ x. x) (λ x y e. cc) (λ f y (e : natural.Bad f ≡ natural.Value y). cc)
 
 pub bad : {m : Checked ℕ} {r : Field} {f g : Fault} → r ≡ field_of m → r ≡ natural.Bad g → f ≡ fault_in r → m ≡ refused f.cause f.place
 bad = lacking _ natural.Bad fault_in (λ f. refl) (λ x f e. cc)
 
 pub amount-value : {m : Checked ℕ} {r : Amount} {x : Thousands} → r ≡ amount_field_of m → r ≡ money.Value x → m ≡ accepted x.0
-amount-value = reads _ _ money.Value (λ x. x.0) (λ x y e. cc) (λ f y e. cc)
+amount-value = reads _ _ money.Value (λ x. x.0) (λ x y e. cc) (λ f y (e : money.Bad f ≡ money.Value y). cc)
 
 pub amount-bad : {m : Checked ℕ} {r : Amount} {f g : Fault} → r ≡ amount_field_of m → r ≡ money.Bad g → f ≡ amount_fault_in r → m ≡ refused f.cause f.place
 amount-bad = lacking _ money.Bad amount_fault_in (λ f. refl) (λ x f e. cc)
 
 pub option-value : {m : Checked ℤ} {r : OptionValue} {x : SignedThousands} → r ≡ option_field_of m → r ≡ worth.Value x → m ≡ accepted x.0
-option-value = reads _ _ worth.Value (λ x. x.0) (λ x y e. cc) (λ f y e. cc)
+option-value = reads _ _ worth.Value (λ x. x.0) (λ x y e. cc) (λ f y (e : worth.Bad f ≡ worth.Value y). cc)
 
 pub option-bad : {m : Checked ℤ} {r : OptionValue} {f g : Fault} → r ≡ option_field_of m → r ≡ worth.Bad g → f ≡ option_fault_in r → m ≡ refused f.cause f.place
 option-bad = lacking _ worth.Bad option_fault_in (λ f. refl) (λ x f e. cc)
 
 pub rate-value : {m : Checked ℤ} {r : Rate} {x : Millionths} → r ≡ rate_field_of m → r ≡ yearly.Value x → m ≡ accepted x.0
-rate-value = reads _ _ yearly.Value (λ x. x.0) (λ x y e. cc) (λ f y e. cc)
+rate-value = reads _ _ yearly.Value (λ x. x.0) (λ x y e. cc) (λ f y (e : yearly.Bad f ≡ yearly.Value y). cc)
 
 pub rate-bad : {m : Checked ℤ} {r : Rate} {f g : Fault} → r ≡ rate_field_of m → r ≡ yearly.Bad g → f ≡ rate_fault_in r → m ≡ refused f.cause f.place
 rate-bad = lacking _ yearly.Bad rate_fault_in (λ f. refl) (λ x f e. cc)
