@@ -1,13 +1,13 @@
 -- The five arrays as a function is lent them: as its `requires` finds them, and in its `ensures` before it began and after it is done.
 use Rattle.std.specs.Prelude.{ℕ, List, ℤ}
-use Rattle.std.specs.Borrow.{Bor}
+use Rattle.std.specs.Borrow.{MutBor}
 use denote.Triple.Both.{Both}
 use Rattle.arrays.specs.Arrays.{Arrays, arrays_as}
 
 abbrev pub Lent : Type 0 → Type 0
-Lent A = Both (Bor (List A)) (Bor (List A))
+Lent A = Both (MutBor (List A)) (MutBor (List A))
 
-abbrev pub lent : (ledger rates add_ons : Bor (List ℤ)) → (sizes option_sizes : Bor (List ℕ)) → Arrays
+abbrev pub lent : (ledger rates add_ons : MutBor (List ℤ)) → (sizes option_sizes : MutBor (List ℕ)) → Arrays
 lent ledger rates add_ons sizes option_sizes = arrays_as ledger.now rates.now add_ons.now sizes.now option_sizes.now
 
 abbrev pub before : (ledger rates add_ons : Lent ℤ) → (sizes option_sizes : Lent ℕ) → Arrays

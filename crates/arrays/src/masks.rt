@@ -4,7 +4,7 @@ ghost use Rattle.std.specs.Prelude.{◌≡◌, ◌≤◌};
 ghost use Rattle.paper.specs.Records.{currencies};
 ghost use Rattle.arrays.specs.Masks.{curved_by, with_currency, lowest_missing, last_of, marked_by};
 
-#[derive(Drop)]
+#[derive(Clone, Copy)]
 pub struct Masks {
     pub used: u32,
     pub curved: u32,

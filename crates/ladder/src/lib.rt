@@ -10,7 +10,7 @@ use paper::BUCKETS;
 use scales::{Millionths, TenThousandthYears};
 
 // A rate times a midpoint, in units of 10^-10. The field is private: only `of` makes one.
-#[derive(Drop)]
+#[derive(Clone, Copy)]
 pub struct Exponent(i64);
 
 impl Exponent {

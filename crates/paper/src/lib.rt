@@ -61,7 +61,7 @@ fn sizes() -> [usize; 11]
 }
 
 // Turned down: the causes, in the order of their numbers. `number_of` in specs/Refusals.antt gives each one's number.
-#[derive(Drop)]
+#[derive(Clone, Copy)]
 pub enum Refusal {
     UnknownKind,
     CutShort,
@@ -86,14 +86,14 @@ pub enum Refusal {
 }
 
 // A cause, and the place of what is at fault.
-#[derive(Drop)]
+#[derive(Clone, Copy)]
 pub struct Fault {
     pub cause: Refusal,
     pub place: usize,
 }
 
 // Shock sizes, in basis points.
-#[derive(Drop)]
+#[derive(Clone, Copy)]
 pub struct Shocks {
     pub parallel: u32,
     pub short: u32,
@@ -101,7 +101,7 @@ pub struct Shocks {
 }
 
 // The verdict against Tier 1 capital. `verdict_number` in specs/Verdict.antt gives each one's number.
-#[derive(Drop)]
+#[derive(Clone, Copy)]
 pub enum Verdict {
     Over,
     Within,

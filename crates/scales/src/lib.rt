@@ -3,19 +3,19 @@
 ghost use Rattle.std.specs.Prelude.{◌≡◌, pos};
 
 // Rates.
-#[derive(Drop)]
+#[derive(Clone, Copy)]
 pub struct Millionths(pub i64);
 
 // Times.
-#[derive(Drop)]
+#[derive(Clone, Copy)]
 pub struct TenThousandthYears(pub i64);
 
 // Money that has no sign: amounts, balances, sums of magnitudes, tolerances, capital.
-#[derive(Drop)]
+#[derive(Clone, Copy)]
 pub struct Thousands(pub u64);
 
 // Money that has one: a flow of its side, the value of an option, a change.
-#[derive(Drop)]
+#[derive(Clone, Copy)]
 pub struct SignedThousands(pub i64);
 
 impl TenThousandthYears {

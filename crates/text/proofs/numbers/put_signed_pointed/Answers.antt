@@ -1,0 +1,20 @@
+-- The sign below zero, then the hundredths of the magnitude.
+use mir.Facts.{to_z-of_z}
+use Rattle.paper.specs.Detail.{pointed}
+use Rattle.text.proofs.Writing.{wrote_then}
+use Rattle.text.proofs.Decimals.{sign_below, sign-not-below}
+use Rattle.text.proofs.numbers.put_signed_pointed.Goals as goal
+
+pub returns-then-z-lt0 : goal.returns-then-z-lt0
+returns-then-z-lt0 c =
+    let below = rw (to_z-of_z c.ranges.z) at c.if-z-lt0.true in
+    let size = rw (to_z-of_z c.ranges.z) at c.magnitude-size.ensures in
+    rw (sign_below pointed c.args.z below, ← size)
+    (wrote_then c.put_byte-digits.ensures c.put_pointed.ensures)
+
+pub returns : goal.returns
+returns c =
+    let not-below = rw (to_z-of_z c.ranges.z) at c.if-z-lt0.false in
+    let size = rw (to_z-of_z c.ranges.z) at c.magnitude-size.ensures in
+    rw (sign-not-below pointed c.args.z not-below, ← size)
+    c.put_pointed-2.ensures
