@@ -18,7 +18,7 @@ add_cells-requires c =
     let at = c.loop-i in
     let signed = c.sided_row.ensures in
     let count : 19 * at.i + 19 - 19 * at.i ≡ 19 = omega arith in
-    let w = (row_fits c.args.side c.args.row.now signed at.i (omega (arith, c.requires.section_len.0)) at.invariant.2 c.requires.fact c.requires.at_most) in record { flows_len = rw count w.0; fact = w.1.0; fact_2 = w.1.1 }
+    let w = (row_fits c.args.side c.args.row.now signed at.i (omega (arith, c.requires.section_len.0)) at.invariant.2 c.requires.fact c.requires.at_most) in record { flows_len = rw count w.0; fact = rw count w.1.0; fact_2 = w.1.1 }
 
 pub loop-i-preserved : goal.loop-i-preserved
 loop-i-preserved c =

@@ -8,12 +8,8 @@ use Rattle.paper.specs.Ladder.{midpoints}
 use Rattle.paper.specs.Series.{denominator, series_term, numerator, billion_over_e}
 use Rattle.paper.specs.Curve.{short_share}
 use Rattle.curve.specs.Shocked.{short_shares}
-use Rattle.curve.proofs.short_shares.Statement.{statement}
-use Rattle.curve.proofs.short_shares.Tie as tie
+use Rattle.curve.proofs.short_shares.Goals as goal
 
-returns : tie.Need-returns
+pub returns : goal.returns
 unfolding short_shares tabulate_from short_share midpoints nearest denominator numerator billion_over_e series_term factorial sum
 returns c = refl
-
-pub short-shares-spec : {M : Type 1} → statement M
-short-shares-spec = tie.close (tie.spec returns)

@@ -2,12 +2,8 @@
 use Rattle.laws.specs.Lists.{tabulate_from}
 use Rattle.paper.proofs.FactorTable.{table, written}
 use Rattle.factor.proofs.Entries.{written-rows}
-use Rattle.factor.proofs.table.Statement.{statement}
-use Rattle.factor.proofs.table.Tie as tie
+use Rattle.factor.proofs.table.Goals as goal
 
-returns : tie.Need-returns
+pub returns : goal.returns
 unfolding tabulate_from written table
 returns c = written-rows
-
-pub table-spec : {M : Type 1} → statement M
-table-spec = tie.close (tie.spec returns)

@@ -1,0 +1,55 @@
+-- `out_of_range` meets its contract: no rate so far is bad.
+use Prim.Native.Nat.{◌-◌}
+use mathlib.Core.Bool.{Bool, true, false}
+use mathlib.Core.Logic.{⊎_elim}
+use mathlib.Core.Path.{◌≡◌, sym, ap, ◌∙◌}
+use native.Mathlib.Omega.{arith}
+use borrow.Author.Count.{below_more}
+use mir.Syntax.{w64}
+use mir.Val.{to_z, of_z}
+use Rattle.laws.proofs.Widths.{back}
+use Rattle.paper.specs.Curve.{Curve, shocked_rate}
+use Rattle.paper.specs.TurnedDown.{bad_rate, bad_shocked}
+use Rattle.curve.specs.Shocked.{curve_of}
+use Rattle.curve.proofs.Rates.{too-low, too-high, in-range, one-bad, none-bad}
+use Rattle.curve.proofs.out_of_range.Goals as goal
+use Rattle.curve.proofs.out_of_range.Goals.{After-struct_told-1}
+
+pub loop-scenario-init : goal.loop-scenario-init
+loop-scenario-init c = (omega arith, omega arith, λ i h l. absurd (omega arith))
+
+pub shocked-rate-requires : goal.shocked-rate-requires
+shocked-rate-requires c = let w = c.requires in record { listed = w.0; sized = w.1.0; shares_value = w.1.1 }
+
+-- what the tests of this scenario's rate tell
+
+module _ (c : After-struct_told-1) where
+  curve : Curve
+  curve = curve_of c.args.rates.now c.args.shocks
+  same : to_z w64 (of_z w64 c.shocked-rate.result.0) ≡ c.shocked-rate.result.0
+  same = back w64 c.shocked-rate.result.0 c.struct_told-1.given.0.1
+  tested : {b : Bool} → bad_rate c.shocked-rate.result.0 ≡ b
+      → bad_rate (shocked_rate curve c.loop-scenario.scenario c.args.k) ≡ b
+  unfolding curve
+  tested e = ap bad_rate (sym c.shocked-rate.ensures.result_value) ∙ e
+  hit : bad_rate c.shocked-rate.result.0 ≡ true → true ≡ bad_shocked curve c.args.k
+  hit e = one-bad _ _ _ c.loop-scenario.invariant.0 c.loop-scenario-test.true (tested e)
+
+pub returns-then-rate-ltminus50000 : goal.returns-then-rate-ltminus50000
+unfolding curve
+returns-then-rate-ltminus50000 c =
+    ⊎_elim (λ w. hit (goal.at.returns-then-rate-ltminus50000 c).Joined-then-rate-ltminus50000.before (too-low _ (rw (same (goal.at.returns-then-rate-ltminus50000 c).Joined-then-rate-ltminus50000.before) at w.taken)))
+    (λ w. hit (goal.at.returns-then-rate-ltminus50000 c).Joined-then-rate-ltminus50000.before (too-high _ (rw (same (goal.at.returns-then-rate-ltminus50000 c).Joined-then-rate-ltminus50000.before) at w.0.left) (rw (same (goal.at.returns-then-rate-ltminus50000 c).Joined-then-rate-ltminus50000.before) at w.3.taken))) c.then-rate-ltminus50000.branch
+
+pub loop-scenario-preserved : goal.loop-scenario-preserved
+unfolding curve
+loop-scenario-preserved c =
+    (
+      omega arith,
+      omega arith,
+      below_more _ _ c.loop-scenario.invariant.2
+          (λ l. tested (goal.at.loop-scenario-preserved c).Else-rate-ltminus50000.before (in-range _ (rw (same (goal.at.loop-scenario-preserved c).Else-rate-ltminus50000.before) at c.if-rate-ltminus50000.false) (rw (same (goal.at.loop-scenario-preserved c).Else-rate-ltminus50000.before) at c.if-rate-gt300000.false))),
+    )
+
+pub returns : goal.returns
+returns c = none-bad _ _ (λ i l h. c.loop-scenario.invariant.2 i (omega arith) l)
