@@ -27,7 +27,7 @@ pub overflow_mul-result : goal.overflow_mul-result
 overflow_mul-result c = rw (parallel-is (goal.at.overflow_mul-result c).After-struct_known-1) (small-fits tt (up (goal.at.overflow_mul-result c).After-struct_known-1))
 
 pub overflow_mul-result-in-2 : goal.overflow_mul-result-in-2
-overflow_mul-result-in-2 c = rw (parallel-is (goal.at.overflow_mul-result-in-2 c).In-2.before) (small-fits tt (down (goal.at.overflow_mul-result-in-2 c).In-2.before))
+overflow_mul-result-in-2 c = rw (parallel-is (goal.at.overflow_mul-result-in-2 c).After-struct_known-1) (small-fits tt (down (goal.at.overflow_mul-result-in-2 c).After-struct_known-1))
 
 pub returns-in-1 : goal.returns-in-1
 unfolding rate_changes
@@ -35,7 +35,7 @@ returns-in-1 c = rw (c.in-1.is, to_z-of_z (overflow_mul-result c), parallel-is (
 
 pub returns-in-2 : goal.returns-in-2
 unfolding rate_changes
-returns-in-2 c = rw (c.in-2.is, to_z-of_z (overflow_mul-result-in-2 c), parallel-is (goal.at.returns-in-2 c).In-2.before) record { result_value = refl; result_bound = omega (arith, (down (goal.at.returns-in-2 c).In-2.before).small) }
+returns-in-2 c = rw (c.in-2.is, to_z-of_z (overflow_mul-result-in-2 c), parallel-is (goal.at.returns-in-2 c).After-struct_known-1) record { result_value = refl; result_bound = omega (arith, (down (goal.at.returns-in-2 c).After-struct_known-1).small) }
 
 pub returns-in-3 : goal.returns-in-3
 returns-in-3 c = rw c.in-3.is record { result_value = c.twist.ensures.result_value ∙ steepener _ _; result_bound = c.twist.ensures.result_bound }

@@ -37,7 +37,7 @@ pub loop-k-preserved : goal.loop-k-preserved
 loop-k-preserved c =
     let at = c.loop-k in
     let stored = c.shocked-rate in
-    (search rules, search rules, filled_next (pos 0) _ at.part at.k _ at.invariant.2 (ap (λ (z : ℤ). to_z w32 (of_z w32 z)) (in-64 c) ∙ to_z-of_z (in-32 c) ∙ stored.ensures.0) (search rules))
+    (search rules, search rules, filled_next (pos 0) _ at.part at.k _ at.invariant.2 (ap (λ (z : ℤ). to_z w32 (of_z w32 z)) (in-64 c) ∙ to_z-of_z (in-32 c) ∙ stored.ensures.result_value) (search rules))
 
 pub returns : goal.returns
 returns c = let at = c.loop-k in filled-all (pos 0) _ at.part buckets at.invariant.1 (λ j o. at.invariant.2 j (omega arith))

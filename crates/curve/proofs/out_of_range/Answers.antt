@@ -13,13 +13,10 @@ use Rattle.paper.specs.TurnedDown.{bad_rate, bad_shocked}
 use Rattle.curve.specs.Shocked.{curve_of}
 use Rattle.curve.proofs.Rates.{too-low, too-high, in-range, one-bad, none-bad}
 use Rattle.curve.proofs.out_of_range.Goals as goal
-use Rattle.curve.proofs.out_of_range.Goals.{After-struct_told-1}
+use Rattle.curve.proofs.out_of_range.Goals.{After-struct_told-1, then-rate-ltminus50000-via-then-rate-ltminus50000, then-rate-ltminus50000-via-else-rate-ltminus50000+then-rate-gt300000}
 
 pub loop-scenario-init : goal.loop-scenario-init
 loop-scenario-init c = (omega arith, omega arith, λ i h l. absurd (omega arith))
-
-pub shocked-rate-requires : goal.shocked-rate-requires
-shocked-rate-requires c = let w = c.requires in record { listed = w.0; sized = w.1.0; shares_value = w.1.1 }
 
 -- what the tests of this scenario's rate tell
 
@@ -38,8 +35,12 @@ module _ (c : After-struct_told-1) where
 pub returns-then-rate-ltminus50000 : goal.returns-then-rate-ltminus50000
 unfolding curve
 returns-then-rate-ltminus50000 c =
-    ⊎_elim (λ w. hit (goal.at.returns-then-rate-ltminus50000 c).Joined-then-rate-ltminus50000.before (too-low _ (rw (same (goal.at.returns-then-rate-ltminus50000 c).Joined-then-rate-ltminus50000.before) at w.taken)))
-    (λ w. hit (goal.at.returns-then-rate-ltminus50000 c).Joined-then-rate-ltminus50000.before (too-high _ (rw (same (goal.at.returns-then-rate-ltminus50000 c).Joined-then-rate-ltminus50000.before) at w.0.left) (rw (same (goal.at.returns-then-rate-ltminus50000 c).Joined-then-rate-ltminus50000.before) at w.3.taken))) c.then-rate-ltminus50000.branch
+    let d = (goal.at.returns-then-rate-ltminus50000 c).After-struct_told-1 in
+    elim c.then-rate-ltminus50000.branch [
+      then-rate-ltminus50000-via-then-rate-ltminus50000 w ↦ hit d (too-low _ (rw (same d) at w.if-rate-ltminus50000.true))
+    | then-rate-ltminus50000-via-else-rate-ltminus50000+then-rate-gt300000 w ↦
+        hit d (too-high _ (rw (same d) at w.if-rate-ltminus50000.false) (rw (same d) at w.if-rate-gt300000.true))
+    ]
 
 pub loop-scenario-preserved : goal.loop-scenario-preserved
 unfolding curve
@@ -48,7 +49,7 @@ loop-scenario-preserved c =
       omega arith,
       omega arith,
       below_more _ _ c.loop-scenario.invariant.2
-          (λ l. tested (goal.at.loop-scenario-preserved c).Else-rate-ltminus50000.before (in-range _ (rw (same (goal.at.loop-scenario-preserved c).Else-rate-ltminus50000.before) at c.if-rate-ltminus50000.false) (rw (same (goal.at.loop-scenario-preserved c).Else-rate-ltminus50000.before) at c.if-rate-gt300000.false))),
+          (λ l. tested (goal.at.loop-scenario-preserved c).After-struct_told-1 (in-range _ (rw (same (goal.at.loop-scenario-preserved c).After-struct_told-1) at c.if-rate-ltminus50000.false) (rw (same (goal.at.loop-scenario-preserved c).After-struct_told-1) at c.if-rate-gt300000.false))),
     )
 
 pub returns : goal.returns

@@ -12,24 +12,19 @@ use Rattle.laws.proofs.Integers.{abs_is, abs-add}
 use Rattle.paper.specs.Curve.{short_share, shocked_rate}
 use Rattle.curve.proofs.Rates.{share-at, share-most}
 use Rattle.curve.proofs.shocked.Goals as goal
-use Rattle.curve.proofs.shocked.Goals.{After-base-1, After-struct_told-2-1, Start}
+use Rattle.curve.proofs.shocked.Goals.{After-struct_told-2-1}
 
 pub bounds-rates-k : goal.bounds-rates-k
 bounds-rates-k c = omega (arith, c.requires.listed.long)
 
-share-is : (c : After-base-1) → get_or c.args.shares.now c.args.k 0 ≡ short_share c.args.k
-share-is c = share-at _ c.requires.shares_value.0 c.requires.shares_value.1
-
 pub change-moved-requires : goal.change-moved-requires
-change-moved-requires c = record { sized = c.requires.sized; share_le_billion = rw (share-is (goal.at.change-moved-requires c).After-way_told-1) (share-most _) }
+change-moved-requires c = record { sized = c.requires.sized; share_le_billion = rw (share-at _ c.requires.shares_value.0 c.requires.shares_value.1) (share-most _) }
 
 -- the base rate and the change, as they were read; the base's twice, since it went into its scale and out again
 
 module _ (c : After-struct_told-2-1) where
-  abbrev s : Start
-  s = c.before.before.before.before.before.before.before
   abbrev base : ℤ
-  base = get_or s.args.rates.now s.args.k (pos 0)
+  base = get_or c.args.rates.now c.args.k (pos 0)
   abbrev moved : ℤ
   moved = c.change-moved.result.0
   base-is : to_z w64 (of_z w64 (to_z w64 (of_z w64 base))) ≡ base
@@ -38,7 +33,7 @@ module _ (c : After-struct_told-2-1) where
   moved-is = back w64 moved c.struct_told-2-1.given.0.1
   most : nat_abs (base +ℤ moved) ≤ 550000
   most =
-      let ranged = s.pre.0.at (pos 0) s.args.k s.pre.1.1.1 in
+      let ranged = c.requires.listed.at (pos 0) c.args.k c.requires.shares_value.1 in
       omega (arith, abs-add base moved, abs_is base, ranged.low, ranged.high, c.change-moved.ensures.result_bound)
 
 pub overflow_add-result : goal.overflow_add-result
@@ -48,4 +43,4 @@ pub returns : goal.returns
 unfolding shocked_rate
 returns c =
     rw (to_z-of_z (overflow_add-result c), base-is c, moved-is c)
-    record { result_value = ap (λ (x : ℤ). base c +ℤ x) (rw (share-is (goal.at.returns c).After-change-moved.before.before) at c.change-moved.ensures.result_value); result_bound = most c }
+    record { result_value = ap (λ (x : ℤ). base c +ℤ x) (rw (share-at _ c.requires.shares_value.0 c.requires.shares_value.1) at c.change-moved.ensures.result_value); result_bound = most c }

@@ -1,0 +1,15 @@
+-- `above_cap` meets its contract: the product fits.
+use Prim.Native.Nat.{ℕ, ◌*◌}
+use mathlib.Core.Path.{ap}
+use native.Mathlib.Nat.{mul-le-mul_right}
+use native.Mathlib.Omega.{arith}
+use Rattle.laws.specs.Tests.{◌below◌}
+use Rattle.rules.proofs.deposit.above_cap.Goals as goal
+
+pub overflow_mul-result : goal.overflow_mul-result
+overflow_mul-result c =
+    record { fits = omega (arith, mul-le-mul_right c.args.total.0 c.cap_of.ensures.1) }
+
+pub returns : goal.returns
+returns c =
+    ap (λ (cap : ℕ). cap * c.args.total.0 below 100 * c.args.core.0) c.cap_of.ensures.0
