@@ -34,11 +34,14 @@ use Rattle.record.specs.declared.curves.DecodedCurve.TheVariants as of_curve
 use Rattle.record.specs.Answers.{single_of, coupons_of, floating_of, floating_spread_of, deposit_of, loan_of, term_deposit_of, values_of}
 use Rattle.record.specs.Answers.{single_read, coupons_read, floating_read, floating_spread_read, deposit_read, loan_read, term_deposit_read, option_read, curve_read}
 
+abbrev EitherOf : {S D : Type 0} → (S → D) → (Fault → D) → D → Type 0
+EitherOf {S} is not d = ((s : S) × (d ≡ is s)) ⊎ ((f : Fault) × (d ≡ not f))
+
 -- an answer holds fields or a fault, and is read as what they say
 module _ {S D : Type 0} (is : S → D) (no : Fault → D) (read : D → Checked Record) (of : S → Record)
     (accepts : (s : S) → read (is s) ≡ accepted (of s)) (refuses : (f : Fault) → read (no f) ≡ refused f.cause f.place) where
   abbrev Either : D → Type 0
-  Either d = ((s : S) × (d ≡ is s)) ⊎ ((f : Fault) × (d ≡ no f))
+  Either = EitherOf is no
 
   same-fault : (f g : Fault) → read (no f) ≡ read (no g) → f ≡ g
   same-fault f g e =
@@ -60,7 +63,7 @@ module _ {S D : Type 0} (is : S → D) (no : Fault → D) (read : D → Checked 
 pub one_single : (a b : DecodedSingle) → single_read a ≡ single_read b → a ≡ b
 unfolding single_read
 one_single = one of_single.Is of_single.Refused single_read (λ s. flows s.currency (single_of s)) (λ s. refl) (λ f. refl)
-    (λ d. elim d [ of_single.Is s ↦ inl (s, refl) | of_single.Refused f ↦ inr (f, refl) ])
+    (λ d. elim d as (EitherOf of_single.Is of_single.Refused) [ of_single.Is s ↦ inl (s, refl) | of_single.Refused f ↦ inr (f, refl) ])
     (λ s t e.
     let currency : s.currency ≡ t.currency = cc in
     let side : s.side ≡ t.side = cc in
@@ -71,7 +74,7 @@ one_single = one of_single.Is of_single.Refused single_read (λ s. flows s.curre
 pub one-coupons : (a b : DecodedCoupons) → coupons_read a ≡ coupons_read b → a ≡ b
 unfolding coupons_read
 one-coupons = one of_coupons.Is of_coupons.Refused coupons_read (λ s. flows s.currency (coupons_of s)) (λ s. refl) (λ f. refl)
-    (λ d. elim d [ of_coupons.Is s ↦ inl (s, refl) | of_coupons.Refused f ↦ inr (f, refl) ])
+    (λ d. elim d as (EitherOf of_coupons.Is of_coupons.Refused) [ of_coupons.Is s ↦ inl (s, refl) | of_coupons.Refused f ↦ inr (f, refl) ])
     (λ s t e.
     let currency : s.currency ≡ t.currency = cc in
     let side : s.side ≡ t.side = cc in
@@ -92,7 +95,7 @@ same-floating f g currency side reset principal coupon =
 pub one-floating : (a b : DecodedFloating) → floating_read a ≡ floating_read b → a ≡ b
 unfolding floating_read
 one-floating = one of_floating.Is of_floating.Refused floating_read (λ s. flows s.currency (floating_of s)) (λ s. refl) (λ f. refl)
-    (λ d. elim d [ of_floating.Is s ↦ inl (s, refl) | of_floating.Refused f ↦ inr (f, refl) ])
+    (λ d. elim d as (EitherOf of_floating.Is of_floating.Refused) [ of_floating.Is s ↦ inl (s, refl) | of_floating.Refused f ↦ inr (f, refl) ])
     (λ s t e.
     let reset : reset_of s ≡ reset_of t = cc in
     same-floating s t (cc) (cc) reset (cc) (cc))
@@ -100,7 +103,7 @@ one-floating = one of_floating.Is of_floating.Refused floating_read (λ s. flows
 pub one-floating-spread : (a b : DecodedFloatingSpread) → floating_spread_read a ≡ floating_spread_read b → a ≡ b
 unfolding floating_spread_read
 one-floating-spread = one of_floating_spread.Is of_floating_spread.Refused floating_spread_read (λ s. flows s.floating.currency (floating_spread_of s)) (λ s. refl) (λ f. refl)
-    (λ d. elim d [ of_floating_spread.Is s ↦ inl (s, refl) | of_floating_spread.Refused f ↦ inr (f, refl) ])
+    (λ d. elim d as (EitherOf of_floating_spread.Is of_floating_spread.Refused) [ of_floating_spread.Is s ↦ inl (s, refl) | of_floating_spread.Refused f ↦ inr (f, refl) ])
     (λ s t e.
     let reset : reset_of s.floating ≡ reset_of t.floating = cc in
     let floating : s.floating ≡ t.floating = same-floating s.floating t.floating (cc) (cc) reset (cc) (cc) in
@@ -112,7 +115,7 @@ one-floating-spread = one of_floating_spread.Is of_floating_spread.Refused float
 pub one-deposit : (body : List ℕ) (a b : DecodedDeposit) → deposit_read body a ≡ deposit_read body b → a ≡ b
 unfolding deposit_read
 one-deposit body = one of_deposit.Is of_deposit.Refused (deposit_read body) (λ s. flows s.currency (deposit_of body s)) (λ s. refl) (λ f. refl)
-    (λ d. elim d [ of_deposit.Is s ↦ inl (s, refl) | of_deposit.Refused f ↦ inr (f, refl) ])
+    (λ d. elim d as (EitherOf of_deposit.Is of_deposit.Refused) [ of_deposit.Is s ↦ inl (s, refl) | of_deposit.Refused f ↦ inr (f, refl) ])
     (λ s t e.
     let currency : s.currency ≡ t.currency = cc in
     let category : s.category ≡ t.category = cc in
@@ -122,7 +125,7 @@ one-deposit body = one of_deposit.Is of_deposit.Refused (deposit_read body) (λ 
 pub one-loan : (body : List ℕ) (a b : DecodedLoan) → loan_read body a ≡ loan_read body b → a ≡ b
 unfolding loan_read
 one-loan body = one of_loan.Is of_loan.Refused (loan_read body) (λ s. flows s.currency (loan_of body s)) (λ s. refl) (λ f. refl)
-    (λ d. elim d [ of_loan.Is s ↦ inl (s, refl) | of_loan.Refused f ↦ inr (f, refl) ])
+    (λ d. elim d as (EitherOf of_loan.Is of_loan.Refused) [ of_loan.Is s ↦ inl (s, refl) | of_loan.Refused f ↦ inr (f, refl) ])
     (λ s t e.
     let currency : s.currency ≡ t.currency = cc in
     let share : s.share ≡ t.share = cc in
@@ -131,7 +134,7 @@ one-loan body = one of_loan.Is of_loan.Refused (loan_read body) (λ s. flows s.c
 pub one-term-deposit : (body : List ℕ) (a b : DecodedTermDeposit) → term_deposit_read body a ≡ term_deposit_read body b → a ≡ b
 unfolding term_deposit_read
 one-term-deposit body = one of_term_deposit.Is of_term_deposit.Refused (term_deposit_read body) (λ s. flows s.currency (term_deposit_of body s)) (λ s. refl) (λ f. refl)
-    (λ d. elim d [ of_term_deposit.Is s ↦ inl (s, refl) | of_term_deposit.Refused f ↦ inr (f, refl) ])
+    (λ d. elim d as (EitherOf of_term_deposit.Is of_term_deposit.Refused) [ of_term_deposit.Is s ↦ inl (s, refl) | of_term_deposit.Refused f ↦ inr (f, refl) ])
     (λ s t e.
     let currency : s.currency ≡ t.currency = cc in
     let share : s.share ≡ t.share = cc in
@@ -140,7 +143,7 @@ one-term-deposit body = one of_term_deposit.Is of_term_deposit.Refused (term_dep
 pub one-option : (a b : DecodedOption) → option_read a ≡ option_read b → a ≡ b
 unfolding option_read
 one-option = one of_option.Is of_option.Refused option_read (λ s. option s.currency s.side (values_of s)) (λ s. refl) (λ f. refl)
-    (λ d. elim d [ of_option.Is s ↦ inl (s, refl) | of_option.Refused f ↦ inr (f, refl) ])
+    (λ d. elim d as (EitherOf of_option.Is of_option.Refused) [ of_option.Is s ↦ inl (s, refl) | of_option.Refused f ↦ inr (f, refl) ])
     (λ s t e.
     let currency : s.currency ≡ t.currency = cc in
     let side : s.side ≡ t.side = cc in
@@ -152,7 +155,7 @@ one-option = one of_option.Is of_option.Refused option_read (λ s. option s.curr
 pub one-curve : (body : List ℕ) (o : ℕ) (a b : DecodedCurve) → curve_read body o a ≡ curve_read body o b → a ≡ b
 unfolding curve_read
 one-curve body o = one of_curve.Is of_curve.Refused (curve_read body o) (λ s. curve s.currency (curve_of (rates_from body o) s.shocks)) (λ s. refl) (λ f. refl)
-    (λ d. elim d [ of_curve.Is s ↦ inl (s, refl) | of_curve.Refused f ↦ inr (f, refl) ])
+    (λ d. elim d as (EitherOf of_curve.Is of_curve.Refused) [ of_curve.Is s ↦ inl (s, refl) | of_curve.Refused f ↦ inr (f, refl) ])
     (λ s t e.
     let currency : s.currency ≡ t.currency = cc in
     let drawn : curve_of (rates_from body o) s.shocks ≡ curve_of (rates_from body o) t.shocks = cc in

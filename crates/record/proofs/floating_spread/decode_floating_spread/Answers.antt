@@ -3,15 +3,14 @@ use Prim.Native.Nat.{ℕ, ◌<◌}
 use mathlib.Core.List.{List}
 use mathlib.Core.Path.{◌≡◌, refl, sym, ap, ◌∙◌}
 use native.Mathlib.Omega.{arith}
-use lib.ListN.{length, get_or, take, length-take}
+use lib.ListN.{get_or, take, length-take}
 use lib.Seq.{get_or-take}
-use borrow.Author.Rules.{rules}
 use Rattle.paper.specs.declared.Refusal.{Refusal}
 use Rattle.paper.specs.declared.Fault.{Fault}
 use Rattle.paper.specs.Ladder.{Term}
 use Rattle.paper.specs.Refusals.{Checked, accepted, refused, ◌>>=◌}
 use Rattle.paper.specs.Records.{Record, flows, floating, floating_spread, currencies}
-use Rattle.paper.specs.Fields.{currency_at, period_at, count_at, amount_at}
+use Rattle.paper.specs.Fields.{period_at, count_at, amount_at}
 use Rattle.paper.specs.Decode.{decode_floating, decode_floating_spread}
 use Rattle.fields.proofs.Reading.{value, bad, amount-value, amount-bad}
 use Rattle.record.specs.declared.floating.Floating.{Floating}
@@ -19,8 +18,7 @@ use Rattle.record.specs.declared.floating.DecodedFloating.{DecodedFloating}
 use Rattle.record.specs.declared.floating.DecodedFloating.TheVariants.{Is, Refused}
 use Rattle.record.specs.Answers.{Body, floating_read, floating_fault_in, floating_spread_read}
 use Rattle.record.proofs.BodyLaws.{Left, out, on, then}
-use Rattle.record.proofs.floating_spread.decode_floating_spread.Statement.{statement}
-use Rattle.record.proofs.floating_spread.decode_floating_spread.Tie as tie
+use Rattle.record.proofs.floating_spread.decode_floating_spread.Goals as goal
 
 -- ---- kind 3's decoder is lent the first 13 bytes
 
@@ -88,61 +86,43 @@ module _ (body : List ℕ) where
 
 -- ---- what is left to decode at each field, once those before it are read
 
-at-period : tie.After-known-told → Left (λ b. period_at b 13)
-unfolding rest
-at-period c =
-    let body = c.before.before.before.before.before.before.args.body.now in
-    record {
-      whole = decode_floating_spread currencies body;
-      body = body;
-      next = _;
-      same = good body c.before.before.before.decode-floating.ensures c.before.read.given.1;
-    }
+module _ (body : List ℕ) {r : DecodedFloating} {s : Floating} (told : floating_read r ≡ decode_floating currencies (take 13 body)) (is : r ≡ Is s) where
+  at-period : Left (λ b. period_at b 13)
+  unfolding rest
+  at-period = record { whole = decode_floating_spread currencies body; body = body; next = _; same = good body told is }
 
-at_count : (c : tie.After-known-told2) → Left (λ b. count_at c.before.before.before.before.before.read.given.0.0.months c.before.read2.given.0.0 b 14)
-unfolding at-period
-at_count c = then (at-period c.before.before.before.before) _ (value c.before.before.before.period-at.ensures c.before.read2.given.1) refl
+  at_count : {period : ℕ} → period_at body 13 ≡ accepted period → Left (λ b. count_at s.months period b 14)
+  unfolding at-period
+  at_count e1 = then at-period _ e1 refl
 
-at-spread : tie.After-known-told3 → Left (λ b. amount_at b 16)
-unfolding at_count
-at-spread c = then (at_count c.before.before.before.before) _ (value c.before.before.before.count_at.ensures c.before.read3.given.1) refl
+  at-spread : {period : ℕ} → period_at body 13 ≡ accepted period → {count : ℕ} → count_at s.months period body 14 ≡ accepted count → Left (λ b. amount_at b 16)
+  unfolding at_count
+  at-spread e1 e2 = then (at_count e1) _ e2 refl
 
-slice-aggregate-decode-floating : tie.Need-slice-aggregate-decode-floating
-slice-aggregate-decode-floating c =
-    let body = c.before.before.args.body.now in
-    omega (arith, length-take 13 body, c.before.before.requires.long)
+pub slice_bounds-decode_floating-end : goal.slice_bounds-decode_floating-end
+slice_bounds-decode_floating-end c =
+    let body = c.args.body.now in
+    omega (arith, length-take 13 body, c.requires.long)
 
-decode-floating-requires : tie.Need-decode-floating-requires
-decode-floating-requires c κs = head-body c.before.before.args.body.now c.before.before.requires
+pub decode_floating-read-requires : goal.decode_floating-read-requires
+decode_floating-read-requires c = head-body c.args.body.now c.requires
 
-returns : tie.Need-returns
+pub returns-in_default : goal.returns-in_default
 unfolding floating_spread_read
-returns c = sym (not_good _ c.before.before.before.decode-floating.ensures c.before.enum_told.given.1 c.fault.ensures)
+returns-in_default c = sym (not_good _ c.decode_floating-read.ensures c.in_default.is c.fault.ensures)
 
-returns-2 : tie.Need-returns-2
+pub returns-in_default-read : goal.returns-in_default-read
 unfolding floating_spread_read at-period
-returns-2 c = out (at-period c.before.before.before.before) (bad c.before.before.before.period-at.ensures c.before.enum-told2.given.1 c.fault2.ensures)
+returns-in_default-read c = out (at-period c.args.body.now c.decode_floating-read.ensures c.in-Is.is) (bad c.period_at-read.ensures c.in_default-read.is c.fault-in_default-read.ensures)
 
-returns-3 : tie.Need-returns-3
+pub returns-in_default-read-2 : goal.returns-in_default-read-2
 unfolding floating_spread_read at_count
-returns-3 c = out (at_count c.before.before.before.before) (bad c.before.before.before.count_at.ensures c.before.enum-told3.given.1 c.fault3.ensures)
+returns-in_default-read-2 c = out (at_count c.args.body.now c.decode_floating-read.ensures c.in-Is.is (value c.period_at-read.ensures c.in-Value.is)) (bad c.count_at-read.ensures c.in_default-read-2.is c.fault-in_default-read-2.ensures)
 
-returns-4 : tie.Need-returns-4
+pub returns-in_default-read-3 : goal.returns-in_default-read-3
 unfolding floating_spread_read at-spread
-returns-4 c = out (at-spread c.before.before.before.before) (amount-bad c.before.before.before.amount-at.ensures c.before.enum-told4.given.1 c.fault4.ensures)
+returns-in_default-read-3 c = out (at-spread c.args.body.now c.decode_floating-read.ensures c.in-Is.is (value c.period_at-read.ensures c.in-Value.is) (value c.count_at-read.ensures c.in-Value-read.is)) (amount-bad c.amount_at-read.ensures c.in_default-read-3.is c.fault-in_default-read-3.ensures)
 
-returns-5 : tie.Need-returns-5
+pub returns : goal.returns
 unfolding floating_spread_read at-spread
-returns-5 c = sym (on (at-spread c.before.before.before.before) (amount-value c.before.before.before.amount-at.ensures c.before.read4.given.1))
-
-pub decode-floating-spread-spec : {M : Type 1} → statement M
-decode-floating-spread-spec =
-    tie.close
-    (tie.spec
-    slice-aggregate-decode-floating
-    decode-floating-requires
-    (λ c. search rules) (λ c. search rules) (λ c κs. search rules) returns
-    (λ c κs. search rules) (λ c. search rules) (λ c. search rules) (λ c κs. search rules) returns-2
-    (λ c κs. search rules) (λ c. search rules) (λ c. search rules) (λ c κs. search rules) returns-3
-    (λ c κs. search rules) (λ c. search rules) (λ c. search rules) (λ c κs. search rules) returns-4
-    returns-5)
+returns c = sym (on (at-spread c.args.body.now c.decode_floating-read.ensures c.in-Is.is (value c.period_at-read.ensures c.in-Value.is) (value c.count_at-read.ensures c.in-Value-read.is)) (amount-value c.amount_at-read.ensures c.in-Value-read-2.is))
