@@ -1,5 +1,6 @@
 // Cases that are written as text, for `vectors`: the head of its file stdin says how.
 #![tactic(auto)]
+
 mod bytes;
 mod scan;
 

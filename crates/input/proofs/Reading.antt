@@ -1,22 +1,15 @@
--- What a read told.
-use Prim.Native.Nat.{ℕ, ◌+◌, ◌-◌, ◌≤◌, ◌<◌}
-use mathlib.Core.List.{List}
-use mathlib.Core.Path.{◌≡◌}
-use native.Mathlib.Omega.{arith}
-use borrow.Rule.Slice.PartMut.{mid_len}
-use lib.ListN.{length, take, drop}
-use Rattle.input.specs.declared.Input.TheVariants.{Bytes, Failed}
+-- Bytes of a reader that come after those that came before.
+use Rattle.std.proofs.Common.{◌≡◌, ℕ, ◌+◌, ◌-◌, ◌≤◌, List, ◌++◌, take, drop, sym, ap, subst, ◌∙◌, arith}
+use Rattle.std.specs.Prelude.{Option}
+use Rattle.std.specs.Io.KnownBytes.{Consumes}
+use Rattle.std.proofs.KnownBytes.{Consumes-trans}
+use Rattle.std.proofs.Math.Seq.{take-add}
 
-pub no_bytes : {A : Type 0} (n : ℕ) → Failed ≡ Bytes n → A
-no_bytes n e = let z : ◌≡◌ {A = ℕ} 0 1 = cc in absurd (omega arith)
-
-pub same_bytes : (m n : ℕ) → Bytes m ≡ Bytes n → m ≡ n
-same_bytes m n e = cc
-
--- what came lies in the rest of the room
-pub within : (room : List ℕ) (filled more : ℕ) → filled ≤ length room → more ≤ length (take (length room - filled) (drop filled room)) → filled + more ≤ length room
-within room filled more h l = let rest = mid_len filled (length room) room (omega arith) in omega arith
-
--- what is left of the room falls
-pub falls : (filled next long long' : ℕ) → filled ≤ next → (next ≡ filled → ⊥) → next ≤ long → long' ≡ long → long' - next < long - filled
-falls filled next long long' h other l e = omega arith
+-- what was filled came from the reader, and so did what was read after it
+pub filled_more : (a b c : Option (List ℕ)) (old new : List ℕ) (filled n : ℕ) → filled ≤ n → take filled new ≡ take filled old
+    → Consumes a b (take filled old) → Consumes b c (take (n - filled) (drop filled new)) → Consumes a c (take n new)
+filled_more a b c old new filled n grows kept before read =
+    let sum : n ≡ filled + (n - filled) = omega arith in
+    let all : take n new ≡ take filled old ++ take (n - filled) (drop filled new) =
+    ap (λ k. take k new) sum ∙ take-add filled (n - filled) new ∙ ap (λ xs. xs ++ take (n - filled) (drop filled new)) kept in
+    subst (Consumes a c) (sym all) (Consumes-trans a b c _ _ before read)

@@ -2,25 +2,21 @@
 #![tactic(auto)]
 use detailing::{LONGEST_DETAIL, print_detail};
 use input::{Input, read_input};
-use libc::{STDERR_FILENO, STDOUT_FILENO};
 
 // Where the output cannot be written there is nobody to tell: the program ends.
-fn print(input: &[u8]) {
+fn print(rt: &impl Print, input: &[u8]) {
     let mut out = [0u8; LONGEST_DETAIL];
     let count = print_detail(input, &mut out);
-    io::write_all(STDOUT_FILENO, &out[0..count]);
+    let _ = rt.write_all(&out[0..count]);
 }
 
 // One byte more than the longest input that is read as a book, so that a longer one is seen to be longer.
-fn main() {
+fn main(rt: HostRuntime) {
     let mut room = [0u8; 65537];
-    match read_input(&mut room) {
+    match read_input(&mut rt.stdin(), &mut room) {
         Input::Failed => {
-            io::write_all(
-                STDERR_FILENO,
-                b"irdetail: standard input cannot be read; nothing is reported\n",
-            );
+            let _ = eprintln!(rt; "irdetail: standard input cannot be read; nothing is reported");
         }
-        Input::Bytes(n) => print(&room[0..n]),
+        Input::Bytes(n) => print(&rt, &room[0..n]),
     }
 }

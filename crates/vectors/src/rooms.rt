@@ -6,31 +6,31 @@ use paper::{CELLS, FIGURES};
 use scales::Thousands;
 use text::refusal::write_refusal;
 
-fn show_refusal(label: &[u8], number: u64, place: u64) {
+fn show_refusal(rt: &impl Print, label: &[u8], number: u64, place: u64) {
     let mut out = [0u8; 64];
     let count = write_refusal(number, place, &mut out);
-    say(label);
-    say(&out[0..count]);
+    say(rt, label);
+    say(rt, &out[0..count]);
 }
 
 // `print_answer` lends rooms that suffice, so 18 is asked of `assess` itself; a report is shown as nothing.
-fn room(label: &[u8], report: &mut [i64], ledger: &mut [i64]) {
+fn room(rt: &impl Print, label: &[u8], report: &mut [i64], ledger: &mut [i64]) {
     let empty = [0u8; 0];
     let Assessed::Refused(fault) = assess(&empty, Thousands(1), report, ledger) else {
         return;
     };
     let cause = fault.cause;
-    show_refusal(label, refusal_number(cause) as u64, fault.place as u64);
+    show_refusal(rt, label, refusal_number(cause) as u64, fault.place as u64);
 }
 
-pub fn show_report_room() {
+pub fn show_report_room(rt: &impl Print) {
     let mut report = [0i64; 201];
     let mut ledger = [0i64; CELLS];
-    room(b"report room 201\n", &mut report, &mut ledger);
+    room(rt, b"report room 201\n", &mut report, &mut ledger);
 }
 
-pub fn show_ledger_room() {
+pub fn show_ledger_room(rt: &impl Print) {
     let mut report = [0i64; FIGURES];
     let mut ledger = [0i64; 4255];
-    room(b"ledger room 4,255\n", &mut report, &mut ledger);
+    room(rt, b"ledger room 4,255\n", &mut report, &mut ledger);
 }
