@@ -32,7 +32,7 @@ values-small values h j =
 -- values that were small come back from their bits as they were
 pub values-back : (values : List ℤ) → AtMostℤ billion values → map (λ z. to_z w64 (of_z w64 z)) values ≡ values
 values-back [] h = refl
-values-back (z ∷ values) h = ap₂ ◌∷◌ (to_z-of_z (sfits-abs z (omega (arith, h 0)))) (values-back values (λ j. h (suc j)))
+values-back (z ∷ values) h = ap₂ ◌∷◌ (to_z-of_z {w = w64} (sfits-abs z (omega (arith, h 0)))) (values-back values (λ j. h (suc j)))
 
 -- the magnitudes of values that came back from their bits
 pub magnitudes-back : (values : List ℤ) (more : List ℕ) → AtMostℤ billion values
