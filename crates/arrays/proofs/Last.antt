@@ -8,7 +8,7 @@ use native.Mathlib.Omega.{arith}
 use lib.Count.{count_leading_zeros, leading_length}
 use lib.Dec.{eqb}
 use lib.Pow.{pow_mono}
-use Rattle.laws.specs.Tests.{if◌then◌else◌}
+use Rattle.std.specs.Prelude.{if◌then◌else◌}
 use Rattle.laws.specs.Digits.{has}
 use Rattle.laws.specs.Sums.{greatest}
 use Rattle.laws.proofs.Digits.{bit_shifted}

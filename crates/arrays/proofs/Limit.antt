@@ -8,7 +8,8 @@ use native.Mathlib.Omega.{arith}
 use borrow.Author.Tests.{le-ltb}
 use lib.IntN.{pos, nat_abs}
 use lib.ListN.{get_or}
-use Rattle.laws.specs.Tests.{if◌then◌else◌, ◌below◌, all}
+use Rattle.std.specs.Prelude.{if◌then◌else◌}
+use Rattle.laws.specs.Tests.{◌below◌, all}
 use Rattle.laws.proofs.Tests.{all_of, all-ext, any-is}
 use Rattle.laws.proofs.Sums.{sum-none}
 use Rattle.paper.specs.Scales.{billion}

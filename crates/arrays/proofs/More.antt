@@ -7,7 +7,8 @@ use native.Mathlib.Nat.{add-zero, div-eq_of_lt, mul-add-div, mul-le-mul_left}
 use native.Mathlib.Omega.{arith}
 use lib.IntN.{ℤ, pos, nat_abs, ◌+ℤ◌, +ℤ_idr}
 use lib.ListN.{get_or, replicate}
-use Rattle.laws.specs.Tests.{if◌then◌else◌, ◌is◌}
+use Rattle.std.specs.Prelude.{if◌then◌else◌}
+use Rattle.laws.specs.Tests.{◌is◌}
 use Rattle.laws.specs.Sums.{total, total_ℤ}
 use Rattle.laws.proofs.Lists.{tabulate-at, tabulate-ext, tabulate-const}
 use Rattle.paper.specs.Ladder.{buckets}

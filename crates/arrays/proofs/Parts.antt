@@ -8,7 +8,8 @@ use native.Mathlib.Nat.{div-add-mod, mod-lt, div-eq_of_lt, mul-add-div, mul-le-m
 use native.Mathlib.Omega.{arith}
 use lib.ListN.{length}
 use borrow.Author.Tests.{eqb-true, eq-eqb, ne_eqb, le-leb, lt-leb, lt-ltb, le-ltb}
-use Rattle.laws.specs.Tests.{if◌then◌else◌, ◌is◌, ◌up_to◌, ◌below◌}
+use Rattle.std.specs.Prelude.{if◌then◌else◌}
+use Rattle.laws.specs.Tests.{◌is◌, ◌up_to◌, ◌below◌}
 use Rattle.laws.specs.Lists.{tabulate, joined}
 use Rattle.laws.proofs.Tests.{lt-or-ge}
 use Rattle.laws.proofs.Lists.{tabulate-length, tabulate-ext}

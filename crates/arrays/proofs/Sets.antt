@@ -10,7 +10,8 @@ use native.Mathlib.Omega.{arith}
 use borrow.Author.Tests.{eq-eqb, ne_eqb}
 use lib.Bits.{bit_and}
 use lib.Count.{count_trailing_zeros}
-use Rattle.laws.specs.Tests.{if◌then◌else◌, ◌is◌, first}
+use Rattle.std.specs.Prelude.{if◌then◌else◌}
+use Rattle.laws.specs.Tests.{◌is◌, first}
 use Rattle.laws.specs.Digits.{has}
 use Rattle.laws.specs.Sums.{some}
 use Rattle.laws.proofs.Tests.{Stops, first_stops, stops-once, first-ext}

@@ -1,7 +1,7 @@
 -- Sets of currencies as masks: the currency c is the binary digit c - 1.
-use Rattle.std.specs.Prelude.{ℕ, suc, ◌-◌, ◌^◌, ◌≤◌, ◌<◌, Bool, not, ◌&&◌, ◌≡◌}
+use Rattle.std.specs.Prelude.{ℕ, suc, ◌-◌, ◌^◌, ◌≤◌, ◌<◌, Bool, not, ◌&&◌, ◌≡◌, if◌then◌else◌}
 use Rattle.std.specs.Int.Bits.{bit_or}
-use Rattle.laws.specs.Tests.{if◌then◌else◌, first}
+use Rattle.laws.specs.Tests.{first}
 use Rattle.laws.specs.Digits.{has}
 use Rattle.laws.specs.Sums.{greatest}
 use Rattle.paper.specs.Records.{Record, currencies, currency_of, is_curve}

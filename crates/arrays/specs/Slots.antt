@@ -1,6 +1,6 @@
 -- What a record puts into its currency's own parts of the arrays: 133 cells and 133 rates, 7 sizes, 6 option sizes, 6 add-ons.
-use Rattle.std.specs.Prelude.{ℕ, suc, ◌+◌, ◌/◌, ◌%◌, Bool, not, List, ℤ, pos, nat_abs, ◌+ℤ◌, get_or}
-use Rattle.laws.specs.Tests.{if◌then◌else◌, ◌below◌, all}
+use Rattle.std.specs.Prelude.{ℕ, suc, ◌+◌, ◌/◌, ◌%◌, Bool, not, List, ℤ, pos, nat_abs, ◌+ℤ◌, get_or, if◌then◌else◌}
+use Rattle.laws.specs.Tests.{◌below◌, all}
 use Rattle.laws.specs.Lists.{joined}
 use Rattle.paper.specs.Scales.{billion}
 use Rattle.paper.specs.Ladder.{buckets}

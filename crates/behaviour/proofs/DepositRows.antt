@@ -4,7 +4,8 @@ use mathlib.Core.List.{List}
 use mathlib.Core.Path.{◌≡◌, ap₂, ◌∙◌}
 use native.Mathlib.Omega.{arith}
 use lib.ListN.{length, get_or, set}
-use Rattle.laws.specs.Tests.{if◌then◌else◌, ◌is◌}
+use Rattle.std.specs.Prelude.{if◌then◌else◌}
+use Rattle.laws.specs.Tests.{◌is◌}
 use Rattle.laws.specs.Sums.{sum, sum_of}
 use Rattle.laws.specs.Lists.{tabulate}
 use Rattle.laws.proofs.Sums.{sum-most}

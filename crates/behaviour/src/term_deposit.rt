@@ -1,6 +1,6 @@
 // Kind 6, a liability: from each bucket's amount the part at the scenario's rate, rounded down, moves to bucket 1; the rest stays.
-ghost use Rattle.std.specs.Prelude.{◌+◌, ◌*◌, ◌/◌, ◌%◌, ◌<◌, ◌≤◌, ◌≡◌, length, get_or};
-ghost use Rattle.laws.specs.Tests.{if◌then◌else◌, ◌is◌};
+ghost use Rattle.std.specs.Prelude.{◌+◌, ◌*◌, ◌/◌, ◌%◌, ◌<◌, ◌≤◌, ◌≡◌, length, get_or, if◌then◌else◌};
+ghost use Rattle.laws.specs.Tests.{◌is◌};
 ghost use Rattle.laws.specs.Lists.{joined};
 ghost use Rattle.paper.specs.Scales.{billion};
 ghost use Rattle.paper.specs.Ladder.{buckets};

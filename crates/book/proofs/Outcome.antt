@@ -8,7 +8,8 @@ use borrow.Author.Tests.{le-leb, lt-leb, leb-true, leb-false, lt-ltb, le-ltb, lt
 use lib.IntN.{ℤ, pos}
 use lib.ListN.{length, take, drop, replicate, drop_of_length-le, take-append-drop}
 use lib.Seq.{length-take-le}
-use Rattle.laws.specs.Tests.{if◌then◌else◌, ◌below◌, ◌up_to◌, first}
+use Rattle.std.specs.Prelude.{if◌then◌else◌}
+use Rattle.laws.specs.Tests.{◌below◌, ◌up_to◌, first}
 use Rattle.laws.proofs.Tests.{first_to}
 use Rattle.paper.specs.declared.Refusal.{Refusal}
 use Rattle.paper.specs.declared.Refusal.TheVariants.{BadCapital, BookTooLong, RoomTooSmall}

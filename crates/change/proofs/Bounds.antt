@@ -9,7 +9,8 @@ use mir.Syntax.{w64}
 use mir.Val.{SFits}
 use Rattle.laws.specs.Sums.{sum, sum_ℤ}
 use Rattle.laws.specs.Nearest.{nearest_ℤ, rounded_up}
-use Rattle.laws.specs.Tests.{if◌then◌else◌, ◌is◌}
+use Rattle.std.specs.Prelude.{if◌then◌else◌}
+use Rattle.laws.specs.Tests.{◌is◌}
 use Rattle.laws.proofs.Integers.{abs-add, abs-sub, abs-mul}
 use Rattle.laws.proofs.Widths.{sfits-abs}
 use Rattle.laws.proofs.Nearest.{near_le}

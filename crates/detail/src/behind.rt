@@ -1,6 +1,5 @@
 // Currency by currency, then the book as a whole.
-ghost use Rattle.std.specs.Prelude.{◌+◌, ◌*◌, ◌≤◌, [], length};
-ghost use Rattle.laws.specs.Tests.{if◌then◌else◌};
+ghost use Rattle.std.specs.Prelude.{◌+◌, ◌*◌, ◌≤◌, [], length, if◌then◌else◌};
 ghost use Rattle.paper.specs.Records.{currencies};
 ghost use Rattle.paper.specs.Program.{curved_lines};
 ghost use Rattle.arrays.specs.Masks.{curved_by};

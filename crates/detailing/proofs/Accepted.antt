@@ -6,7 +6,8 @@ use mathlib.Core.Path.{◌≡◌, refl}
 use native.Mathlib.Omega.{arith}
 use borrow.Author.Tests.{ltb-false}
 use lib.ListN.{length, drop, length-drop}
-use Rattle.laws.specs.Tests.{if◌then◌else◌, ◌below◌}
+use Rattle.std.specs.Prelude.{if◌then◌else◌}
+use Rattle.laws.specs.Tests.{◌below◌}
 use Rattle.paper.specs.declared.Refusal.TheVariants.{BadCapital, BookTooLong}
 use Rattle.paper.specs.Refusals.{accepted, refused}
 use Rattle.paper.specs.Records.{Record, currencies}

@@ -1,6 +1,6 @@
 -- Coupons at regular periods after a start, and one amount due at a term.
-use Rattle.std.specs.Prelude.{ℕ, suc, ◌+◌, ◌*◌, ◌≤◌, List, [], ◌∷◌}
-use Rattle.laws.specs.Tests.{if◌then◌else◌, ◌is◌}
+use Rattle.std.specs.Prelude.{ℕ, suc, ◌+◌, ◌*◌, ◌≤◌, List, [], ◌∷◌, if◌then◌else◌}
+use Rattle.laws.specs.Tests.{◌is◌}
 use Rattle.paper.specs.Scales.{billion}
 use Rattle.paper.specs.Ladder.{Term}
 use Rattle.paper.specs.Flow.{due, coupons_due}

@@ -6,7 +6,8 @@ use mathlib.Core.Path.{◌≡◌, refl, sym, ap, ◌∙◌}
 use native.Mathlib.Nat.{eq-or-lt_of_le}
 use native.Mathlib.Omega.{arith}
 use borrow.Author.Tests.{lt-ltb, le-ltb, eq-eqb, ne_eqb, ltb-true}
-use Rattle.laws.specs.Tests.{if◌then◌else◌, ◌up_to◌, ◌below◌, all}
+use Rattle.std.specs.Prelude.{if◌then◌else◌}
+use Rattle.laws.specs.Tests.{◌up_to◌, ◌below◌, all}
 use Rattle.laws.proofs.Tests.{and-true, all-at}
 use Rattle.paper.specs.Ladder.{Term, not_after, upper_ends, upper_end, bucket_of}
 use Rattle.paper.proofs.Buckets.{in-bucket, one-bucket}

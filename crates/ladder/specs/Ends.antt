@@ -1,6 +1,5 @@
 -- The bucket of a term of a month up to a bucket's end: that bucket, whose end belongs to it, or the next.
-use Rattle.std.specs.Prelude.{ℕ, ◌+◌}
-use Rattle.laws.specs.Tests.{if◌then◌else◌}
+use Rattle.std.specs.Prelude.{ℕ, ◌+◌, if◌then◌else◌}
 use Rattle.paper.specs.Ladder.{Term, not_after}
 
 abbrev pub by_end : (term end : Term) → ℕ → ℕ

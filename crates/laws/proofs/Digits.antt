@@ -9,7 +9,8 @@ use lib.Count.{count_trailing_zeros, under}
 use lib.Dec.{eqb, eqb-zero-suc, eqb-suc-zero, eqb-suc-suc}
 use lib.Pow.{pow-lt}
 use Rattle.laws.specs.Digits.{bit, has}
-use Rattle.laws.specs.Tests.{if◌then◌else◌, ◌is◌, first}
+use Rattle.std.specs.Prelude.{if◌then◌else◌}
+use Rattle.laws.specs.Tests.{◌is◌, first}
 
 -- ---- a digit as a number
 

@@ -10,7 +10,7 @@ use lib.Signed.{lt_z}
 use Rattle.laws.specs.Integers.{up, down}
 use Rattle.laws.specs.Ratio.{Ratio, positive, ◌≤ℚ◌, greater, greatest_ℚ, Within}
 use Rattle.laws.specs.Sums.{greatest}
-use Rattle.laws.specs.Tests.{if◌then◌else◌}
+use Rattle.std.specs.Prelude.{if◌then◌else◌}
 use Rattle.laws.proofs.Integers.{side, mul-up, mul-down}
 use Rattle.laws.proofs.Order.{ints}
 use Rattle.laws.proofs.Ratio.{within-is, within_of, within-nat, within-whole, within_wider}

@@ -10,7 +10,8 @@ use borrow.Author.Tests.{lt-ltb, le-ltb, le-leb, lt-leb}
 use lib.ListN.{length, get_or, set, length-set}
 use lib.Seq.{get_or-set_same, get_or-set_other}
 use Rattle.laws.specs.Lists.{tabulate, joined, section, splice}
-use Rattle.laws.specs.Tests.{if◌then◌else◌, ◌up_to◌, ◌below◌}
+use Rattle.std.specs.Prelude.{if◌then◌else◌}
+use Rattle.laws.specs.Tests.{◌up_to◌, ◌below◌}
 use Rattle.laws.proofs.Lists.{tabulate-length, tabulate-at, tabulate-is, tabulate-ext}
 use Rattle.laws.proofs.Sections.{length-section, length-splice, section-at, splice-before, splice-in, splice-after}
 use Rattle.laws.proofs.Tests.{lt-or-ge}

@@ -7,7 +7,8 @@ use native.Mathlib.Numerals.{add-one}
 use native.Mathlib.Omega.{arith}
 use borrow.Author.Tests.{eq-eqb, ne_eqb, eqb-false}
 use Rattle.laws.specs.Sums.{greatest}
-use Rattle.laws.specs.Tests.{if◌then◌else◌, ◌is◌, first}
+use Rattle.std.specs.Prelude.{if◌then◌else◌}
+use Rattle.laws.specs.Tests.{◌is◌, first}
 use Rattle.laws.proofs.Sums.{at_most, greatest-reached}
 use Rattle.laws.proofs.Tests.{lt-or-ge, first-from, first_to, first_holds, first-before, first-none, first-is}
 

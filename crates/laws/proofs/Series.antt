@@ -7,7 +7,8 @@ use native.Mathlib.Omega.{arith}
 use borrow.Author.Tests.{le-leb, lt-leb}
 use Rattle.laws.specs.Series.{cleared, exponential_top, exponential_bottom}
 use Rattle.laws.specs.Sums.{sum}
-use Rattle.laws.specs.Tests.{if◌then◌else◌, ◌up_to◌}
+use Rattle.std.specs.Prelude.{if◌then◌else◌}
+use Rattle.laws.specs.Tests.{◌up_to◌}
 use Rattle.laws.proofs.DividedPowers.{Step≤, Step≥, sums-above, sums-below}
 use Rattle.laws.proofs.Sums.{sum-ext, sum-le, sum-upto, sum-only}
 use Rattle.laws.proofs.Terms.{factorial-pos, cleared-first, cleared-none, cleared-last, cleared-step, cleared-grows}

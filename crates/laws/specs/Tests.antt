@@ -1,12 +1,7 @@
 -- A choice by a test, and tests over a run of numbers.
-use Rattle.std.specs.Prelude.{ℕ, zero, suc, Bool, true, false, ltb, leb, eqb}
+use Rattle.std.specs.Prelude.{ℕ, zero, suc, Bool, true, false, ltb, leb, eqb, if◌then◌else◌}
 
--- looser than every operator: `if b then x + y else z` chooses between x + y and z
-infix 0 if◌then◌else◌
 infix 50 ◌is◌ ◌up_to◌ ◌below◌
-abbrev pub if◌then◌else◌ : {A : Type 0} → Bool → A → A → A
-if true then a else b = a
-if false then a else b = b
 
 abbrev pub ◌is◌ : ℕ → ℕ → Bool
 ◌is◌ = eqb

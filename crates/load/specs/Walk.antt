@@ -1,6 +1,6 @@
 -- What the walk over a book's records answers, and what it leaves in the arrays.
-use Rattle.std.specs.Prelude.{ℕ, zero, suc, List, [], ◌∷◌, ◌++◌, ◌≡◌, length}
-use Rattle.laws.specs.Tests.{if◌then◌else◌, ◌up_to◌}
+use Rattle.std.specs.Prelude.{ℕ, zero, suc, List, [], ◌∷◌, ◌++◌, ◌≡◌, length, if◌then◌else◌}
+use Rattle.laws.specs.Tests.{◌up_to◌}
 use Rattle.paper.specs.declared.Fault.{Fault}
 use Rattle.paper.specs.Refusals.{Checked, accepted, refused}
 use Rattle.paper.specs.Records.{Record, currencies}

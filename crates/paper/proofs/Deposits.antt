@@ -5,7 +5,8 @@ use mathlib.Core.Path.{◌≡◌}
 use native.Mathlib.Nat.{mul-le-mul_left}
 use native.Mathlib.Omega.{arith}
 use lib.ListN.{get_or, length}
-use Rattle.laws.specs.Tests.{if◌then◌else◌, ◌is◌}
+use Rattle.std.specs.Prelude.{if◌then◌else◌}
+use Rattle.laws.specs.Tests.{◌is◌}
 use Rattle.laws.specs.Sums.{sum, total, sum_of}
 use Rattle.laws.proofs.Sums.{sum-ext, sum-add, sum_one}
 use Rattle.laws.proofs.Totals.{sum-list, sum-get_or}

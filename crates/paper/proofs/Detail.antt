@@ -9,7 +9,8 @@ use native.Mathlib.Omega.{arith}
 use borrow.Author.Tests.{eqb-false, eq-eqb, ne_eqb}
 use lib.ListN.{length, drop, length-append}
 use lib.Seq.{get_or-take, get_or-drop}
-use Rattle.laws.specs.Tests.{if◌then◌else◌, ◌is◌, ◌up_to◌}
+use Rattle.std.specs.Prelude.{if◌then◌else◌}
+use Rattle.laws.specs.Tests.{◌is◌, ◌up_to◌}
 use Rattle.laws.specs.Sums.{sum, total}
 use Rattle.laws.specs.Nearest.{rounded_up}
 use Rattle.laws.proofs.Tests.{lt-or-ge}

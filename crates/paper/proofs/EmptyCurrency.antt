@@ -6,7 +6,8 @@ use mathlib.Core.Path.{◌≡◌, refl, ap}
 use native.Mathlib.Omega.{arith}
 use lib.IntN.{ℤ, pos, nat_abs, ◌+ℤ◌}
 use borrow.Author.Tests.{not-false}
-use Rattle.laws.specs.Tests.{if◌then◌else◌, ◌is◌}
+use Rattle.std.specs.Prelude.{if◌then◌else◌}
+use Rattle.laws.specs.Tests.{◌is◌}
 use Rattle.laws.specs.Sums.{total_ℤ, some}
 use Rattle.laws.specs.Nearest.{nearest, nearest_ℤ}
 use Rattle.laws.proofs.Tests.{or-false}

@@ -9,7 +9,8 @@ use borrow.Author.Tests.{eqb-true, le-ltb}
 use lib.Dec.{lit<, lit≤}
 use lib.IntN.{ℤ, pos, negsuc, ◌+ℤ◌, ◌-ℤ◌, ◌*ℤ◌}
 use lib.ListN.{get_or}
-use Rattle.laws.specs.Tests.{if◌then◌else◌, ◌is◌, ◌below◌, all}
+use Rattle.std.specs.Prelude.{if◌then◌else◌}
+use Rattle.laws.specs.Tests.{◌is◌, ◌below◌, all}
 use Rattle.laws.specs.Sums.{sum, sum_ℤ}
 use Rattle.laws.specs.Nearest.{nearest, nearest_ℤ}
 use Rattle.laws.specs.Series.{factorial}

@@ -7,7 +7,8 @@ use mathlib.Core.Path.{◌≡◌, refl, sym, ap, ◌∙◌}
 use native.Mathlib.Omega.{arith}
 use lib.ListN.{length, get_or-eq_default}
 use borrow.Author.Tests.{eqb-true, eqb-false, ltb-true, ltb-false, ne_eqb}
-use Rattle.laws.specs.Tests.{if◌then◌else◌, ◌is◌, ◌below◌}
+use Rattle.std.specs.Prelude.{if◌then◌else◌}
+use Rattle.laws.specs.Tests.{◌is◌, ◌below◌}
 use Rattle.laws.proofs.Tests.{lt-or-ge}
 use Rattle.paper.specs.declared.Refusal.TheVariants.{UnknownKind}
 use Rattle.paper.specs.Refusals.{number_of, of_field, Checked, refused}

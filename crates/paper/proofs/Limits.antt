@@ -8,7 +8,8 @@ use native.Mathlib.Nat.{le_trans}
 use native.Mathlib.Omega.{arith}
 use lib.IntN.{ℤ, pos, nat_abs, ◌+ℤ◌}
 use borrow.Author.Tests.{eqb-true, ltb-false}
-use Rattle.laws.specs.Tests.{if◌then◌else◌, ◌is◌, any}
+use Rattle.std.specs.Prelude.{if◌then◌else◌}
+use Rattle.laws.specs.Tests.{◌is◌, any}
 use Rattle.laws.specs.Sums.{sum, total}
 use Rattle.laws.proofs.Tests.{or-false, any_none}
 use Rattle.laws.proofs.Sums.{sum-le, sum-nil}

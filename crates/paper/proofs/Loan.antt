@@ -7,7 +7,8 @@ use mathlib.Core.Path.{◌≡◌, ap}
 use native.Mathlib.Nat.{mul-add, mul-le-mul_left, mul-le-mul_right, div-le_of_le-mul}
 use native.Mathlib.Omega.{arith}
 use lib.ListN.{get_or, length, drop, drop_of_length-le}
-use Rattle.laws.specs.Tests.{if◌then◌else◌, ◌is◌}
+use Rattle.std.specs.Prelude.{if◌then◌else◌}
+use Rattle.laws.specs.Tests.{◌is◌}
 use Rattle.laws.specs.Sums.{sum, total, sum_of}
 use Rattle.laws.proofs.Totals.{sum_drop}
 use Rattle.paper.specs.Ladder.{buckets, widths, width}

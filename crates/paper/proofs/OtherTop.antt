@@ -8,7 +8,8 @@ use mathlib.Core.Path.{◌≡◌, refl, sym, ◌∙◌}
 use native.Mathlib.Omega.{arith}
 use lib.ListN.{length, take, drop}
 use borrow.Author.Tests.{le-leb, lt-leb, leb-false, le-ltb, ltb-false, ne_eqb}
-use Rattle.laws.specs.Tests.{if◌then◌else◌, ◌is◌, ◌up_to◌, ◌below◌, first}
+use Rattle.std.specs.Prelude.{if◌then◌else◌}
+use Rattle.laws.specs.Tests.{◌is◌, ◌up_to◌, ◌below◌, first}
 use Rattle.laws.specs.Sums.{some}
 use Rattle.laws.proofs.Tests.{lt-or-ge, or-false, first_to, first-none, none_first}
 use Rattle.laws.proofs.Totals.{some_more}

@@ -6,7 +6,8 @@ use mathlib.Core.Path.{◌≡◌, refl, sym, ap, ◌∙◌}
 use native.Mathlib.Omega.{arith}
 use lib.IntN.{pos, ◌+ℤ◌, +ℤ_idl, +ℤ_idr}
 use borrow.Author.Tests.{eqb-true}
-use Rattle.laws.specs.Tests.{if◌then◌else◌, ◌is◌}
+use Rattle.std.specs.Prelude.{if◌then◌else◌}
+use Rattle.laws.specs.Tests.{◌is◌}
 use Rattle.laws.specs.Sums.{some}
 use Rattle.laws.proofs.Tests.{or-false}
 use Rattle.paper.specs.Ladder.{buckets}

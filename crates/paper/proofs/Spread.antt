@@ -4,7 +4,8 @@ use mathlib.Core.Bool.{Bool, true, false}
 use mathlib.Core.Path.{◌≡◌, refl, ap}
 use native.Mathlib.Omega.{arith}
 use lib.IntN.{pos}
-use Rattle.laws.specs.Tests.{if◌then◌else◌, ◌is◌}
+use Rattle.std.specs.Prelude.{if◌then◌else◌}
+use Rattle.laws.specs.Tests.{◌is◌}
 use Rattle.laws.proofs.Sums.{sum-none}
 use Rattle.paper.specs.Ladder.{Term, bucket_of}
 use Rattle.paper.specs.Records.{floating, floating_spread}

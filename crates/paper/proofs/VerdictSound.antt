@@ -6,7 +6,7 @@ use mathlib.Core.Path.{◌≡◌, refl, sym, ap}
 use native.Mathlib.Omega.{arith}
 use lib.IntN.{ℤ, pos, ◌+ℤ◌, ◌-ℤ◌, ◌*ℤ◌}
 use lib.Signed.{lt_z, le_z, ◌≤ℤ◌, ◌<ℤ◌, clash_ℤ}
-use Rattle.laws.specs.Tests.{if◌then◌else◌}
+use Rattle.std.specs.Prelude.{if◌then◌else◌}
 use Rattle.laws.specs.Ratio.{whole, ◌*ℚ◌, ◌≤ℚ◌, ◌<ℚ◌}
 use Rattle.laws.proofs.Integers.{diff-up, diff-down, mul-up, mul-down}
 use Rattle.laws.proofs.Order.{lt-is, lt_of, le_is, le_of, lt_z-true, lt_z-of, le_z-true, le_z-of, <-or-≥}

@@ -6,7 +6,8 @@ use mathlib.Core.Path.{◌≡◌, refl, sym, subst}
 use native.Mathlib.Omega.{arith}
 use lib.ListN.{length, take, drop}
 use borrow.Author.Tests.{le-leb, leb-false}
-use Rattle.laws.specs.Tests.{if◌then◌else◌, ◌is◌, ◌up_to◌}
+use Rattle.std.specs.Prelude.{if◌then◌else◌}
+use Rattle.laws.specs.Tests.{◌is◌, ◌up_to◌}
 use Rattle.laws.proofs.Totals.{some_more}
 use Rattle.paper.specs.Ladder.{buckets}
 use Rattle.paper.specs.Refusals.{number_of, of_field, Checked, accepted, refused, ◌>>=◌}

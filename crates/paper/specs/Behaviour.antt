@@ -1,6 +1,6 @@
 -- Behaviour of deposits and loans (001, 6; 01, "Records", kinds 4 to 6). Lists of amounts are by bucket, 19 of them.
-use Rattle.std.specs.Prelude.{ℕ, zero, suc, ◌+◌, ◌*◌, ◌-◌, ◌/◌, min, List, [], ◌∷◌, get_or, drop}
-use Rattle.laws.specs.Tests.{if◌then◌else◌, ◌is◌}
+use Rattle.std.specs.Prelude.{ℕ, zero, suc, ◌+◌, ◌*◌, ◌-◌, ◌/◌, min, List, [], ◌∷◌, get_or, drop, if◌then◌else◌}
+use Rattle.laws.specs.Tests.{◌is◌}
 use Rattle.laws.specs.Sums.{sum, total, sum_of}
 use Rattle.paper.specs.Ladder.{buckets, midpoint, width}
 

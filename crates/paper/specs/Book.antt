@@ -1,6 +1,6 @@
 -- The book is walked record by record, first byte to last. Its outcome is the list of the records kept, or the first refusal with its place.
-use Rattle.std.specs.Prelude.{ℕ, zero, suc, ◌+◌, Bool, ◌||◌, List, [], ◌∷◌, ◌++◌, ℤ, pos, length, take, drop, replicate}
-use Rattle.laws.specs.Tests.{if◌then◌else◌, ◌is◌, ◌up_to◌, first}
+use Rattle.std.specs.Prelude.{ℕ, zero, suc, ◌+◌, Bool, ◌||◌, List, [], ◌∷◌, ◌++◌, ℤ, pos, length, take, drop, replicate, if◌then◌else◌}
+use Rattle.laws.specs.Tests.{◌is◌, ◌up_to◌, first}
 use Rattle.paper.specs.declared.Refusal.{Refusal}
 use Rattle.paper.specs.declared.Refusal.TheVariants.{UnknownKind, CutShort, OverLimit, NoCurve, BadCapital, BookTooLong, RoomTooSmall}
 use Rattle.paper.specs.Refusals.{number_of, Checked, accepted, refused, ◌>>=◌, ◌>>◌, unless, refuse_if}

@@ -1,6 +1,6 @@
 -- From flows to changes in economic value (loss positive), and the tolerance of each.
-use Rattle.std.specs.Prelude.{ℕ, ◌+◌, ◌*◌, ℤ, pos, nat_abs, ◌+ℤ◌, ◌-ℤ◌, ◌*ℤ◌}
-use Rattle.laws.specs.Tests.{if◌then◌else◌, ◌is◌}
+use Rattle.std.specs.Prelude.{ℕ, ◌+◌, ◌*◌, ℤ, pos, nat_abs, ◌+ℤ◌, ◌-ℤ◌, ◌*ℤ◌, if◌then◌else◌}
+use Rattle.laws.specs.Tests.{◌is◌}
 use Rattle.laws.specs.Sums.{sum, sum_ℤ}
 use Rattle.laws.specs.Nearest.{nearest_ℤ, rounded_up}
 use Rattle.paper.specs.Scales.{billion}

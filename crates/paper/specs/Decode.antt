@@ -1,6 +1,6 @@
 -- The body of each kind: fields as laid out, first refusal first; then 9, 10, 11 and the record's own limb of 14.
-use Rattle.std.specs.Prelude.{ℕ, suc, ◌+◌, ◌*◌, Bool, List}
-use Rattle.laws.specs.Tests.{if◌then◌else◌, ◌is◌, ◌below◌, first}
+use Rattle.std.specs.Prelude.{ℕ, suc, ◌+◌, ◌*◌, Bool, List, if◌then◌else◌}
+use Rattle.laws.specs.Tests.{◌is◌, ◌below◌, first}
 use Rattle.paper.specs.declared.Refusal.TheVariants.{UnknownKind, CoreAboveCap, CoreTooLong, InterestAlone, SecondCurve, OutOfRange, OverLimit}
 use Rattle.paper.specs.Ladder.{buckets}
 use Rattle.paper.specs.Refusals.{Checked, accepted, refused, ◌>>=◌, ◌>>◌, refuse_if}

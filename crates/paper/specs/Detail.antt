@@ -1,6 +1,6 @@
 -- What stands behind a report: `irdetail` reads what `irreport` reads and prints the same lines, then those that are defined here.
-use Rattle.std.specs.Prelude.{ℕ, zero, suc, ◌+◌, ◌*◌, ◌/◌, ◌%◌, Bool, ◌&&◌, List, [], ◌∷◌, ◌++◌, ℤ, pos, ◌-ℤ◌, length, drop}
-use Rattle.laws.specs.Tests.{if◌then◌else◌, ◌is◌, ◌up_to◌}
+use Rattle.std.specs.Prelude.{ℕ, zero, suc, ◌+◌, ◌*◌, ◌/◌, ◌%◌, Bool, ◌&&◌, List, [], ◌∷◌, ◌++◌, ℤ, pos, ◌-ℤ◌, length, drop, if◌then◌else◌}
+use Rattle.laws.specs.Tests.{◌is◌, ◌up_to◌}
 use Rattle.laws.specs.Lists.{tabulate, tabulate_from}
 use Rattle.laws.specs.Sums.{total}
 use Rattle.laws.specs.Nearest.{rounded_up}

@@ -1,7 +1,7 @@
 -- No part of 01 and 02 as they stand: places as they were told before request 2 of 02, at the record's first byte whichever field was at fault. Kept for one theorem,
 -- `as_before`: a book is accepted, or else earns its number, exactly as it did, and its place lies in the same record.
-use Rattle.std.specs.Prelude.{ℕ, zero, suc, ◌<◌, true, false, List, [], ◌∷◌, ◌++◌, ◌≡◌, length}
-use Rattle.laws.specs.Tests.{if◌then◌else◌, ◌up_to◌}
+use Rattle.std.specs.Prelude.{ℕ, zero, suc, ◌<◌, true, false, List, [], ◌∷◌, ◌++◌, ◌≡◌, length, if◌then◌else◌}
+use Rattle.laws.specs.Tests.{◌up_to◌}
 use Rattle.paper.specs.declared.Refusal.{Refusal}
 use Rattle.paper.specs.declared.Refusal.TheVariants.{BadCapital, BookTooLong, RoomTooSmall}
 use Rattle.paper.specs.Refusals.{of_field, Checked, accepted, refused, ◌>>=◌, ◌>>◌, refuse_if}

@@ -1,7 +1,7 @@
 -- Fields: big-endian numbers, each with the refusal that it earns. `o` is a field's first byte in the body. The place of a fault is counted
 -- from the record's first byte, which is the kind: `suc o` for a field, 0 for the record as a whole.
-use Rattle.std.specs.Prelude.{ℕ, zero, suc, ◌+◌, ◌*◌, Bool, List, [], ◌∷◌, ℤ, pos, ◌-ℤ◌, get_or}
-use Rattle.laws.specs.Tests.{if◌then◌else◌, ◌below◌}
+use Rattle.std.specs.Prelude.{ℕ, zero, suc, ◌+◌, ◌*◌, Bool, List, [], ◌∷◌, ℤ, pos, ◌-ℤ◌, get_or, if◌then◌else◌}
+use Rattle.laws.specs.Tests.{◌below◌}
 use Rattle.paper.specs.declared.Refusal.{Refusal}
 use Rattle.paper.specs.declared.Refusal.TheVariants.{BadCurrency, BadSide, BadTerm, TooLarge, BadShare, BadCategory, OutOfRange, UnknownEdition, CodeNotListed}
 use Rattle.paper.specs.Refusals.{Checked, accepted, ◌>>=◌, ◌>>◌, unless, refuse_if}

@@ -1,6 +1,6 @@
 -- What one record puts into scenario i (0 is the base) and bucket k + 1: flows, add-ons, rates.
-use Rattle.std.specs.Prelude.{ℕ, suc, ◌+◌, ◌*◌, ◌-◌, ℤ, pos, neg_ℤ, nat_abs, get_or}
-use Rattle.laws.specs.Tests.{if◌then◌else◌, ◌is◌}
+use Rattle.std.specs.Prelude.{ℕ, suc, ◌+◌, ◌*◌, ◌-◌, ℤ, pos, neg_ℤ, nat_abs, get_or, if◌then◌else◌}
+use Rattle.laws.specs.Tests.{◌is◌}
 use Rattle.laws.specs.Sums.{sum}
 use Rattle.paper.specs.Ladder.{buckets, Term, in_months, today, later, bucket_of}
 use Rattle.paper.specs.Curve.{shocked_rate}

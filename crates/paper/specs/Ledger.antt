@@ -1,6 +1,6 @@
 -- A book means the list of the records kept. What they come to is, number by number, a sum over the records of one currency.
-use Rattle.std.specs.Prelude.{ℕ, suc, ◌+◌, ◌*◌, ◌/◌, ◌%◌, Bool, not, ◌&&◌, List, [], ◌∷◌, ℤ, pos, nat_abs}
-use Rattle.laws.specs.Tests.{if◌then◌else◌, ◌is◌}
+use Rattle.std.specs.Prelude.{ℕ, suc, ◌+◌, ◌*◌, ◌/◌, ◌%◌, Bool, not, ◌&&◌, List, [], ◌∷◌, ℤ, pos, nat_abs, if◌then◌else◌}
+use Rattle.laws.specs.Tests.{◌is◌}
 use Rattle.laws.specs.Sums.{total, total_ℤ, some}
 use Rattle.laws.specs.Lists.{tabulate}
 use Rattle.paper.specs.Ladder.{buckets}

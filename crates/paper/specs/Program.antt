@@ -1,6 +1,6 @@
 -- The report program: `irreport` reads T in 8 bytes, unsigned and big-endian, then the book, and prints lines of text, as bytes.
-use Rattle.std.specs.Prelude.{ℕ, zero, suc, ◌+◌, ◌*◌, ◌/◌, ◌%◌, Bool, List, [], ◌∷◌, ◌++◌, ℤ, pos, negsuc, length, get_or, drop}
-use Rattle.laws.specs.Tests.{if◌then◌else◌, ◌is◌, ◌below◌}
+use Rattle.std.specs.Prelude.{ℕ, zero, suc, ◌+◌, ◌*◌, ◌/◌, ◌%◌, Bool, List, [], ◌∷◌, ◌++◌, ℤ, pos, negsuc, length, get_or, drop, if◌then◌else◌}
+use Rattle.laws.specs.Tests.{◌is◌, ◌below◌}
 use Rattle.laws.specs.Lists.{tabulate_from}
 use Rattle.paper.specs.declared.Refusal.TheVariants.{BadCapital, BookTooLong}
 use Rattle.paper.specs.Refusals.{number_of, Checked, accepted, refused}

@@ -1,7 +1,7 @@
 -- From changes to the verdict (001, step 5; SRP31.82 for the 15 per cent). The rules are over any changes by currency and scenario.
-use Rattle.std.specs.Prelude.{ℕ, suc, ◌+◌, ◌*◌, ◌-◌, ◌/◌, ◌%◌, List, [], ◌∷◌, ◌++◌, ℤ, pos, ◌+ℤ◌, ◌-ℤ◌, ◌*ℤ◌}
+use Rattle.std.specs.Prelude.{ℕ, suc, ◌+◌, ◌*◌, ◌-◌, ◌/◌, ◌%◌, List, [], ◌∷◌, ◌++◌, ℤ, pos, ◌+ℤ◌, ◌-ℤ◌, ◌*ℤ◌, if◌then◌else◌}
 use Rattle.std.specs.Int.Signed.{lt_z, le_z}
-use Rattle.laws.specs.Tests.{if◌then◌else◌, ◌is◌, first}
+use Rattle.laws.specs.Tests.{◌is◌, first}
 use Rattle.laws.specs.Integers.{up}
 use Rattle.laws.specs.Sums.{sum, greatest}
 use Rattle.laws.specs.Lists.{tabulate, tabulate_from}

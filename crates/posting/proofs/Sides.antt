@@ -10,7 +10,8 @@ use lib.ListN.{length, get_or, get_or-eq_default}
 use mir.Syntax.{w64}
 use mir.Val.{SFits}
 use borrow.Author.Tests.{eq-eqb, ne_eqb}
-use Rattle.laws.specs.Tests.{if◌then◌else◌, ◌is◌}
+use Rattle.std.specs.Prelude.{if◌then◌else◌}
+use Rattle.laws.specs.Tests.{◌is◌}
 use Rattle.laws.specs.Lists.{tabulate, section, splice}
 use Rattle.laws.proofs.Lists.{tabulate-length, tabulate-at}
 use Rattle.laws.proofs.Sections.{length-section}

@@ -1,6 +1,6 @@
 -- A currency's parts of the arrays, and what is left in them. 14 is tested first: what is over the limit changes nothing.
-use Rattle.std.specs.Prelude.{ℕ, suc, ◌+◌, ◌*◌, ◌/◌, ◌%◌, ◌<◌, ◌≤◌, Bool, List, ◌≡◌, ℤ, pos, nat_abs, length, get_or}
-use Rattle.laws.specs.Tests.{if◌then◌else◌, ◌is◌}
+use Rattle.std.specs.Prelude.{ℕ, suc, ◌+◌, ◌*◌, ◌/◌, ◌%◌, ◌<◌, ◌≤◌, Bool, List, ◌≡◌, ℤ, pos, nat_abs, length, get_or, if◌then◌else◌}
+use Rattle.laws.specs.Tests.{◌is◌}
 use Rattle.paper.specs.declared.Refusal.TheVariants.{OverLimit}
 use Rattle.paper.specs.Scales.{billion}
 use Rattle.paper.specs.Ladder.{buckets}

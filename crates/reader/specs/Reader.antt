@@ -1,6 +1,6 @@
 -- What stands at a place of the book.
-use Rattle.std.specs.Prelude.{ℕ, suc, List, length}
-use Rattle.laws.specs.Tests.{if◌then◌else◌, ◌up_to◌}
+use Rattle.std.specs.Prelude.{ℕ, suc, List, length, if◌then◌else◌}
+use Rattle.laws.specs.Tests.{◌up_to◌}
 use Rattle.paper.specs.TurnedDown.{unknown_kind, cut_short}
 use Rattle.paper.specs.Fields.{byte}
 use Rattle.paper.specs.Book.{next_at}

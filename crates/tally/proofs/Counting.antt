@@ -7,7 +7,8 @@ use native.Mathlib.Nat.{add-zero}
 use native.Mathlib.Omega.{arith}
 use borrow.Author.Tests.{eqb-true, eq-eqb, ne_eqb, ltb-true}
 use lib.IntN.{ℤ, pos, ◌+ℤ◌, +ℤ_idr}
-use Rattle.laws.specs.Tests.{if◌then◌else◌, ◌is◌, ◌below◌, all}
+use Rattle.std.specs.Prelude.{if◌then◌else◌}
+use Rattle.laws.specs.Tests.{◌is◌, ◌below◌, all}
 use Rattle.laws.proofs.Tests.{all-at}
 use Rattle.laws.proofs.Totals.{total-more}
 use Rattle.laws.proofs.Lists.{tabulate-ext}

@@ -6,7 +6,7 @@ use mathlib.Core.Path.{◌≡◌, refl, ap₂}
 use native.Mathlib.Nat.{mul_comm, suc-mul}
 use native.Mathlib.Omega.{arith}
 use lib.ListN.{length, length-append}
-use Rattle.laws.specs.Tests.{if◌then◌else◌}
+use Rattle.std.specs.Prelude.{if◌then◌else◌}
 use Rattle.paper.specs.Program.{curved_lines}
 
 module _ (curved : ℕ → Bool) (text : ℕ → List ℕ) where

@@ -9,7 +9,8 @@ use borrow.Author.Tests.{lt-ltb, le-ltb}
 use lib.IntN.{ℤ, pos, negsuc, nat_abs}
 use lib.ListN.{length, length-append}
 use lib.Signed.{lt_z}
-use Rattle.laws.specs.Tests.{if◌then◌else◌, ◌below◌}
+use Rattle.std.specs.Prelude.{if◌then◌else◌}
+use Rattle.laws.specs.Tests.{◌below◌}
 use Rattle.laws.proofs.Order.{lt_z-true, lt_z-false}
 use Rattle.paper.specs.Program.{digits_of, decimal, with_sign, signed_decimal}
 use Rattle.paper.specs.Detail.{pointed, pointed_line}

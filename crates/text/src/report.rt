@@ -1,6 +1,5 @@
 // The lines of a report: its numbers stand in one slice, changes first, then sums, measure, worst, total tolerance and verdict.
-ghost use Rattle.std.specs.Prelude.{◌+◌, ◌*◌, ◌≤◌, [], ◌∷◌, ◌++◌, ◌≡◌, length, drop};
-ghost use Rattle.laws.specs.Tests.{if◌then◌else◌};
+ghost use Rattle.std.specs.Prelude.{◌+◌, ◌*◌, ◌≤◌, [], ◌∷◌, ◌++◌, ◌≡◌, length, drop, if◌then◌else◌};
 ghost use Rattle.paper.specs.Records.{currencies};
 ghost use Rattle.paper.specs.Ledger.{figures};
 ghost use Rattle.paper.specs.Program.{changes_line, curved_lines, verdict_word, report_text};

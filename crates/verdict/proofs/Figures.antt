@@ -9,7 +9,8 @@ use lib.IntN.{ℤ, pos, nat_abs}
 use lib.ListN.{length, get_or}
 use Rattle.laws.specs.Integers.{up}
 use Rattle.laws.specs.Sums.{sum}
-use Rattle.laws.specs.Tests.{if◌then◌else◌, ◌is◌, first}
+use Rattle.std.specs.Prelude.{if◌then◌else◌}
+use Rattle.laws.specs.Tests.{◌is◌, first}
 use Rattle.laws.proofs.Integers.{abs_is}
 use Rattle.laws.proofs.Sums.{sum-most, sum-rest, greatest-least}
 use Rattle.laws.proofs.Tests.{lt-or-ge, first_to}
