@@ -6,7 +6,7 @@ ghost use Rattle.reader.specs.Reader.{stands_at};
 
 use kinds::body_length;
 
-#[derive(Drop)]
+#[derive(Clone, Copy)]
 pub struct Reader<'a> {
     pub book: &'a [u8],
     pub at: usize,
