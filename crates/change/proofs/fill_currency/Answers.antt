@@ -6,7 +6,6 @@ use native.Mathlib.Omega.{arith}
 use lib.IntN.{ℤ}
 use Rattle.laws.specs.Lists.{tabulate_from, section, splice}
 use Rattle.laws.proofs.Lists.{tabulate_from-ext}
-use Rattle.laws.proofs.Sections.{length-section}
 use Rattle.paper.specs.Flow.{shocked}
 use Rattle.paper.specs.Ledger.{section_size, Totals}
 use Rattle.paper.specs.Change.{change}
@@ -15,52 +14,48 @@ use Rattle.change.specs.Bounds.{Bounded}
 use Rattle.change.proofs.Agreement.{SameCurrency, currency-bounded, change-same}
 use Rattle.change.proofs.CurrencyParts.{part_of, part-net, part-tolerances}
 use Rattle.change.proofs.fill_currency.Goals as goal
-use Rattle.change.proofs.fill_currency.Goals.{Start}
 
 -- the currency's own parts
-
-module _ (s : Start) where
-  abbrev c₀ : ℕ
-  c₀ = s.args.c
-  abbrev cells : List ℤ
-  cells = section (section_size * c₀) section_size s.args.ledger.now
-  abbrev rates : List ℤ
-  rates = section (section_size * c₀) section_size s.args.rates.now
-  abbrev add_ons : List ℤ
-  add_ons = section (shocked * c₀) shocked s.args.add_ons.now
+module _ (ledger rates add_ons : List ℤ) (c : ℕ) where
   abbrev t : Totals
-  t = totals_by s.args.ledger.now s.args.add_ons.now s.args.rates.now
+  t = totals_by ledger add_ons rates
+
   abbrev own : Totals
-  own = totals_by cells add_ons rates
-  same : SameCurrency t (c₀ + 1) own 1
-  same = part_of s.args.ledger.now s.args.rates.now s.args.add_ons.now c₀
-  bounded : Bounded own 1
-  bounded = currency-bounded same s.requires.bounded
-  cells_count : section_size * c₀ + section_size - section_size * c₀ ≡ section_size
-  cells_count = omega arith
-  six-count : shocked * c₀ + shocked - shocked * c₀ ≡ shocked
-  six-count = omega arith
-  six-changes : tabulate_from (change own 1) 1 shocked ≡ tabulate_from (change t (c₀ + 1)) 1 shocked
+  own = totals_by (section (section_size * c) section_size ledger) (section (shocked * c) shocked add_ons) (section (section_size * c) section_size rates)
+
+  same : SameCurrency t (c + 1) own 1
+  same = part_of ledger rates add_ons c
+
+  bounded : Bounded t (c + 1) → Bounded own 1
+  bounded b = currency-bounded same b
+
+  six-changes : tabulate_from (change own 1) 1 shocked ≡ tabulate_from (change t (c + 1)) 1 shocked
   six-changes = tabulate_from-ext _ _ 1 shocked (λ i p l. sym (change-same same i p (omega arith)))
 
-pub fill_changes-requires : goal.fill_changes-requires
-fill_changes-requires c =
-    rw (cells_count (goal.at.fill_changes-requires c).Start, six-count (goal.at.fill_changes-requires c).Start) record { currency_lengths = record {
-        cells-long = length-section (section_size * c₀ (goal.at.fill_changes-requires c).Start) section_size c.args.ledger.now (omega arith);
-        rates-long = length-section (section_size * c₀ (goal.at.fill_changes-requires c).Start) section_size c.args.rates.now (omega arith);
-        add_ons-long = length-section (shocked * c₀ (goal.at.fill_changes-requires c).Start) shocked c.args.add_ons.now (omega arith);
-        changes-long = length-section (shocked * c₀ (goal.at.fill_changes-requires c).Start) shocked c.args.changes.now (omega arith);
-      }; bounded = bounded (goal.at.fill_changes-requires c).Start; midpoints_value = (c.requires.midpoints_value.0, c.requires.midpoints_value.1) }
+cells_count : (c : ℕ) → section_size * c + section_size - section_size * c ≡ section_size
+cells_count c = omega arith
 
-pub fill_tolerances-requires : goal.fill_tolerances-requires
-fill_tolerances-requires c =
-    rw (cells_count (goal.at.fill_tolerances-requires c).Start, six-count (goal.at.fill_tolerances-requires c).Start) record { cells_len = (
-        length-section (section_size * c₀ (goal.at.fill_tolerances-requires c).Start) section_size c.args.ledger.now (omega arith),
-        length-section (shocked * c₀ (goal.at.fill_tolerances-requires c).Start) shocked c.args.tolerances.now (omega arith),
-      ); by_index = λ i l. omega (arith, part-net c.args.ledger.now c.args.rates.now c.args.add_ons.now (c₀ (goal.at.fill_tolerances-requires c).Start) i l, (c.requires.bounded.rows i l).net) }
+six-count : (c : ℕ) → shocked * c + shocked - shocked * c ≡ shocked
+six-count c = omega arith
 
-pub returns : goal.returns
-returns c =
-    let filled = rw (cells_count (goal.at.returns c).Start, six-count (goal.at.returns c).Start) at c.fill_changes.ensures in
-    let tolerated = rw (cells_count (goal.at.returns c).Start) at c.fill_tolerances.ensures in
-    rw (six-count (goal.at.returns c).Start) record { changes_after = ap (λ (l : List ℤ). splice (shocked * c₀ (goal.at.returns c).Start) shocked c.args.changes.now l) (filled ∙ six-changes (goal.at.returns c).Start); tolerances_after = ap (λ (l : List ℤ). splice (shocked * c₀ (goal.at.returns c).Start) shocked c.args.tolerances.now l) (tolerated ∙ part-tolerances c.args.ledger.now c.args.rates.now c.args.add_ons.now (c₀ (goal.at.returns c).Start)) }
+pub fill_changes-requires-clause-bounded : goal.fill_changes-requires-clause-bounded
+fill_changes-requires-clause-bounded c =
+    rw (cells_count c.args.c, six-count c.args.c) (bounded c.args.ledger.now c.args.rates.now c.args.add_ons.now c.args.c c.requires.bounded)
+
+pub fill_tolerances-requires-clause-by_index : goal.fill_tolerances-requires-clause-by_index
+fill_tolerances-requires-clause-by_index c =
+    rw (cells_count c.args.c) (λ i l. omega (arith, part-net c.args.ledger.now c.args.rates.now c.args.add_ons.now c.args.c i l, (c.requires.bounded.rows i l).net))
+
+pub returns-clause-changes_after : goal.returns-clause-changes_after
+returns-clause-changes_after c =
+    let filled = rw (cells_count c.args.c, six-count c.args.c) at c.fill_changes.ensures in
+    rw (six-count c.args.c)
+    (ap (λ (l : List ℤ). splice (shocked * c.args.c) shocked c.args.changes.now l)
+     (filled ∙ six-changes c.args.ledger.now c.args.rates.now c.args.add_ons.now c.args.c))
+
+pub returns-clause-tolerances_after : goal.returns-clause-tolerances_after
+returns-clause-tolerances_after c =
+    let tolerated = rw (cells_count c.args.c) at c.fill_tolerances.ensures in
+    rw (six-count c.args.c)
+    (ap (λ (l : List ℤ). splice (shocked * c.args.c) shocked c.args.tolerances.now l)
+     (tolerated ∙ part-tolerances c.args.ledger.now c.args.rates.now c.args.add_ons.now c.args.c))

@@ -2,8 +2,6 @@
 use Prim.Native.Nat.{◌-◌, ◌≤◌}
 use mathlib.Core.List.{[]}
 use mathlib.Core.Path.{◌≡◌}
-use mir.Syntax.{w64}
-use mir.Val.{to_z}
 use Rattle.laws.specs.Sums.{sum_ℤ}
 use Rattle.paper.specs.Ladder.{buckets}
 use Rattle.arrays.specs.Rooms.{totals_by}
@@ -12,7 +10,7 @@ use Rattle.change.proofs.value_of.Given as goal
 
 abbrev pub invariant-loop-k : goal.invariant-loop-k
 invariant-loop-k l =
-    (l.k ≤ buckets) × (to_z w64 l.sum ≡ sum_ℤ (weighed (totals_by l.cells [] l.rates) 1 l.scenario) l.k)
+    (l.k ≤ buckets) × (l.sum ≡ sum_ℤ (weighed (totals_by l.cells [] l.rates) 1 l.scenario) l.k)
 
 abbrev pub decreases-loop-k : goal.decreases-loop-k
 decreases-loop-k l = buckets - l.k
