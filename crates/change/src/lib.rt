@@ -1,6 +1,7 @@
 // One currency: its changes in economic value, and the tolerance of each. Its own parts of the arrays, 133 cells, 133 rates and 6 add-ons, are
 // read as currency 1's.
 #![tactic(auto)]
+
 ghost use Rattle.std.specs.Prelude.{◌≡◌, [], ℕ, ◌+◌, ◌*◌, ◌<◌, ◌≤◌, nat_abs, length};
 ghost use Rattle.laws.specs.Nearest.{nearest_ℤ};
 ghost use Rattle.paper.specs.Scales.{billion};

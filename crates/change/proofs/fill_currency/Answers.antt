@@ -51,11 +51,11 @@ returns-clause-changes_after c =
     let filled = rw (cells_count c.args.c, six-count c.args.c) at c.fill_changes.ensures in
     rw (six-count c.args.c)
     (ap (λ (l : List ℤ). splice (shocked * c.args.c) shocked c.args.changes.now l)
-     (filled ∙ six-changes c.args.ledger.now c.args.rates.now c.args.add_ons.now c.args.c))
+    (filled ∙ six-changes c.args.ledger.now c.args.rates.now c.args.add_ons.now c.args.c))
 
 pub returns-clause-tolerances_after : goal.returns-clause-tolerances_after
 returns-clause-tolerances_after c =
     let tolerated = rw (cells_count c.args.c) at c.fill_tolerances.ensures in
     rw (six-count c.args.c)
     (ap (λ (l : List ℤ). splice (shocked * c.args.c) shocked c.args.tolerances.now l)
-     (tolerated ∙ part-tolerances c.args.ledger.now c.args.rates.now c.args.add_ons.now c.args.c))
+    (tolerated ∙ part-tolerances c.args.ledger.now c.args.rates.now c.args.add_ons.now c.args.c))
