@@ -8,15 +8,15 @@ use lib.Signed.{lt_z, le_z}
 use mir.Syntax.{w64}
 use mir.Val.{SFits, to_z, of_z}
 use mir.Facts.{to_z-of_z, to_z_pos}
-use borrow.Author.Rules.{rules}
 use Rattle.laws.proofs.Widths.{Small, small_pos, small-le, small-add, small-sub, small_mul, small-fits}
 use Rattle.paper.specs.declared.Verdict.TheVariants.{Over, Within, Close}
 use Rattle.paper.specs.Verdict.{verdict}
 use Rattle.verdict.specs.Figures.{most_of_a_sum}
-use Rattle.verdict.proofs.verdict.verdict_of.Statement.{statement}
-use Rattle.verdict.proofs.verdict.verdict_of.Tie as tie
+use Rattle.verdict.proofs.verdict.verdict_of.Goals as goal
+use Rattle.verdict.proofs.verdict.verdict_of.Goals.{Start}
 
 -- the verdict by its two tests
+
 module _ (m u T : ℕ) where
   abbrev over_test : Bool
   over_test = lt_z (pos 15 *ℤ pos T) (pos 100 *ℤ (pos m -ℤ pos u))
@@ -37,7 +37,8 @@ module _ (m u T : ℕ) where
   close-is e f = rw (e, f)
 
 -- every number on the way fits
-module _ (c : tie.Start) where
+
+module _ (c : Start) where
   abbrev m : ℤ
   m = pos c.args.measure.0
 
@@ -83,65 +84,17 @@ module _ (c : tie.Start) where
   high_is : to_z w64 (of_z w64 (pos 100 *ℤ to_z w64 (of_z w64 (to_z w64 c.args.measure.0 +ℤ to_z w64 c.args.tolerance.0)))) ≡ pos 100 *ℤ (m +ℤ u)
   high_is = rw (m-is, u-is, to_z-of_z more-fits) (to_z-of_z high_fits)
 
-cast-limit : tie.Need-overflow-cast-limit
-cast-limit c = search rules
+pub returns-then-low-limit : goal.returns-then-low-limit
+returns-then-low-limit c =
+    let s = (goal.at.returns-then-low-limit c).Start in
+    over-is _ _ _ (rw (limit_is s, low-is s) at c.if-low-limit.true)
 
-mul-limit : tie.Need-overflow-mul-limit
-mul-limit c = let s = c.before in rw (tier1-is s) (limit-fits s)
+pub returns-then-high-limit : goal.returns-then-high-limit
+returns-then-high-limit c =
+    let s = (goal.at.returns-then-high-limit c).Start in
+    within-is _ _ _ (rw (limit_is s, low-is s) at c.if-low-limit.false) (rw (limit_is s, high_is s) at c.if-high-limit.true)
 
-cast-low : tie.Need-overflow-cast-low
-cast-low c = search rules
-
-cast-low-2 : tie.Need-overflow-cast-low-2
-cast-low-2 c = search rules
-
-sub_low : tie.Need-overflow-sub-low
-sub_low c = let s = c.before.before.before in rw (m-is s, u-is s) (less-fits s)
-
-mul_low : tie.Need-overflow-mul-low
-mul_low c = let s = c.before.before.before in rw (m-is s, u-is s, to_z-of_z (less-fits s)) (low_fits s)
-
-cast-high : tie.Need-overflow-cast-high
-cast-high c = search rules
-
-cast-high-2 : tie.Need-overflow-cast-high-2
-cast-high-2 c = search rules
-
-add-high : tie.Need-overflow-add-high
-add-high c = let s = c.before.before.before.before.before in rw (m-is s, u-is s) (more-fits s)
-
-mul-high : tie.Need-overflow-mul-high
-mul-high c = let s = c.before.before.before.before.before in rw (m-is s, u-is s, to_z-of_z (more-fits s)) (high_fits s)
-
-returns : tie.Need-returns
+pub returns : goal.returns
 returns c =
-    let s = c.before.before.before.before.before.before in
-    over-is _ _ _ (rw (limit_is s, low-is s) at c.if1.true)
-
-returns-2 : tie.Need-returns-2
-returns-2 c =
-    let s = c.before.before.before.before.before.before.before in
-    within-is _ _ _ (rw (limit_is s, low-is s) at c.before.if1.false) (rw (limit_is s, high_is s) at c.if2.true)
-
-returns-3 : tie.Need-returns-3
-returns-3 c =
-    let s = c.before.before.before.before.before.before.before in
-    close-is _ _ _ (rw (limit_is s, low-is s) at c.before.if1.false) (rw (limit_is s, high_is s) at c.if2.false)
-
-pub verdict-of-spec : {M : Type 1} → statement M
-verdict-of-spec =
-    tie.close
-    (tie.spec
-    cast-limit
-    mul-limit
-    cast-low
-    cast-low-2
-    sub_low
-    mul_low
-    cast-high
-    cast-high-2
-    add-high
-    mul-high
-    returns
-    returns-2
-    returns-3)
+    let s = (goal.at.returns c).Start in
+    close-is _ _ _ (rw (limit_is s, low-is s) at c.if-low-limit.false) (rw (limit_is s, high_is s) at c.if-high-limit.false)
