@@ -30,7 +30,7 @@ module _ (c : After-magnitude) where
   magnitude-is : c.magnitude.result ≡ size c.loop-k.k
   magnitude-is =
       c.magnitude.ensures
-      ∙ ap nat_abs (back w64 (get_or c.args.cells.now (buckets * c.args.scenario + c.loop-k.k) (pos 0)) c.magnitude-arg-1.given ∙ sym (part-cell c.args.cells.now _ _))
+      ∙ ap nat_abs (back w64 (get_or c.args.cells.now (buckets * c.args.scenario + c.loop-k.k) (pos 0)) (omega arith) ∙ sym (part-cell c.args.cells.now _ _))
 
 pub loop-k-init : goal.loop-k-init
 unfolding sum

@@ -12,7 +12,7 @@ use mir.Facts.{to_z-of_z, to_z_pos}
 use Rattle.laws.specs.Sums.{sum_ℤ}
 use Rattle.laws.proofs.Widths.{back}
 use Rattle.laws.proofs.Sums.{sum_ℤ-more}
-use Rattle.paper.specs.Ladder.{buckets, midpoints, midpoint}
+use Rattle.paper.specs.Ladder.{buckets, midpoints}
 use Rattle.paper.specs.Factor.{low_start, factor}
 use Rattle.paper.specs.Ledger.{Totals}
 use Rattle.paper.specs.Change.{value, exponent}
@@ -38,12 +38,9 @@ module _ (i k : ℕ) where
 factor-fits : {f : ℕ} → f ≤ low_start → SFits w64 (pos f)
 factor-fits h = record { sfits = omega (arith, h) }
 
--- the rate of this turn, and the midpoint
+-- the rate of this turn
 rate-is : (c : After-of) → to_z w64 (of_z w64 (to_z w32 (of_z w32 (get_or c.args.rates.now (buckets * c.args.scenario + c.loop-k.k) (pos 0))))) ≡ cell_by c.args.rates.now 1 c.args.scenario c.loop-k.k
-rate-is c = rate-read c.args.scenario c.loop-k.k c.args.rates.now c.rate-1.given
-
-years-are : (c : After-of) → c.of.result.0 ≡ pos (midpoint c.loop-k.k)
-years-are c = c.of.ensures ∙ ap (λ (l : List ℕ). pos (get_or l c.loop-k.k 0)) c.requires.midpoints_value.0
+rate-is c = rate-read c.args.scenario c.loop-k.k c.args.rates.now (omega arith)
 
 -- the product of this turn, and the sum with it
 module _ (c : After-factor) where
@@ -59,11 +56,11 @@ module _ (c : After-factor) where
   factor-is : c.factor.result ≡ factor (exponent (row.rate 1 i k) k)
   factor-is =
       c.factor.ensures.0
-      ∙ ap factor (c.of-exponent.ensures.is k (c.of.ensures ∙ ap (λ (l : List ℕ). pos (get_or l k 0)) c.requires.midpoints_value.0) ∙ ap (λ (r : ℤ). exponent r k) (rate-read i k c.args.rates.now c.rate-1.given))
+      ∙ ap factor (c.of-exponent.ensures.is k (c.of.ensures ∙ ap (λ (l : List ℕ). pos (get_or l k 0)) c.requires.midpoints_value.0) ∙ ap (λ (r : ℤ). exponent r k) (rate-read i k c.args.rates.now (omega arith)))
 
   product_is : to_z w64 (of_z w64 (get_or c.args.cells.now (buckets * i + k) (pos 0))) *ℤ to_z w64 c.factor.result ≡ weighed row 1 i k
   product_is =
-      ap₂ ◌*ℤ◌ (read_is i k w64 c.args.cells.now c.sum-1.given) (to_z_pos w64 {n = c.factor.result} (factor-fits c.factor.ensures.1).sfits ∙ ap pos factor-is)
+      ap₂ ◌*ℤ◌ (read_is i k w64 c.args.cells.now (omega arith)) (to_z_pos w64 {n = c.factor.result} (factor-fits c.factor.ensures.1).sfits ∙ ap pos factor-is)
 
   product-fits : SFits w64 (weighed row 1 i k)
   product-fits = weighed-fits row 1 i c.requires.bounded_row.net k c.loop-k-test.true
