@@ -1,5 +1,6 @@
 // From flows to the verdict (01, "From flows to verdict"): the report of the arrays into which a book's records were slotted.
 #![tactic(auto)]
+
 ghost use Rattle.std.specs.Prelude.{◌≡◌, ◌≤◌};
 ghost use Rattle.paper.specs.Records.{currencies};
 ghost use Rattle.paper.specs.Verdict.{report_of};
