@@ -1,10 +1,10 @@
 -- `fill_report` meets its contract. The invariant is `Done`: the figures of the currencies so far are in their lists. A currency without a curve
 -- has nothing in it, so the zeros that stand there are its figures; so have all past the last with a curve.
 use Prim.Native.Nat.{ℕ, ◌+◌, ◌-◌, ◌≤◌}
+use mathlib.Core.List.{List}
 use mathlib.Core.Path.{◌≡◌, sym, ◌∙◌}
 use native.Mathlib.Omega.{arith}
 use lib.IntN.{ℤ}
-use mathlib.Core.List.{List}
 use Rattle.paper.specs.Records.{currencies}
 use Rattle.paper.specs.Ledger.{Totals}
 use Rattle.arrays.specs.Masks.{curved_by, last_of}

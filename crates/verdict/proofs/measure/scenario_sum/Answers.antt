@@ -17,7 +17,6 @@ use Rattle.verdict.proofs.measure.scenario_sum.Goals as goal
 use Rattle.verdict.proofs.measure.scenario_sum.Goals.{After-positive}
 
 -- the loss of this turn, and the total with it
-
 module _ (c : After-positive) where
   abbrev loss : ℕ → ℕ
   loss d = up (listed c.args.changes.now (suc d) c.args.scenario)

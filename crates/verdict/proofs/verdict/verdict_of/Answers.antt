@@ -16,7 +16,6 @@ use Rattle.verdict.proofs.verdict.verdict_of.Goals as goal
 use Rattle.verdict.proofs.verdict.verdict_of.Goals.{Start}
 
 -- the verdict by its two tests
-
 module _ (m u T : ℕ) where
   abbrev over_test : Bool
   over_test = lt_z (pos 15 *ℤ pos T) (pos 100 *ℤ (pos m -ℤ pos u))
@@ -37,7 +36,6 @@ module _ (m u T : ℕ) where
   close-is e f = rw (e, f)
 
 -- every number on the way fits
-
 module _ (c : Start) where
   abbrev m : ℤ
   m = pos c.args.measure.0
