@@ -1,5 +1,6 @@
 // How many records a book has in all, and of each kind in each currency: ten counts for each currency, a kind each.
 #![tactic(auto)]
+
 ghost use Rattle.std.specs.Prelude.{List, [], ◌∷◌, ◌++◌, ◌≡◌, ℕ, suc, ◌*◌, ◌-◌, ◌<◌, ◌≤◌, pos, length, replicate, if◌then◌else◌};
 ghost use Rattle.laws.specs.Tests.{◌is◌};
 ghost use Rattle.paper.specs.Records.{currencies, kind_count};

@@ -1,0 +1,12 @@
+-- What the loop of `tally` keeps, and why it ends.
+use Prim.Native.Nat.{◌-◌}
+use mathlib.Core.Path.{◌≡◌}
+use lib.ListN.{length}
+use Rattle.tally.proofs.Progress.{Counting}
+use Rattle.tally.proofs.tally.Given as goal
+
+abbrev pub invariant-loop-at : goal.invariant-loop-at
+invariant-loop-at l = (length l.counts ≡ length l.initial.counts) × Counting l.book l.counts l.count l.at
+
+abbrev pub decreases-loop-at : goal.decreases-loop-at
+decreases-loop-at l = length l.book - l.at
