@@ -1,5 +1,6 @@
 // What stands behind a report: the lines that `irdetail` prints after those of `irreport`, written into a buffer that the caller lends.
 #![tactic(auto)]
+
 use paper::{CURRENCIES, KINDS};
 
 pub mod behind;

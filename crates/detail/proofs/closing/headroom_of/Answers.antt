@@ -9,11 +9,10 @@ use mir.Val.{SFits, to_z, of_z}
 use Rattle.laws.proofs.Widths.{Small, small_pos, small-le, small-sub, small-fits}
 use Rattle.paper.specs.Detail.{limit, headroom}
 use Rattle.verdict.specs.Figures.{most_of_a_sum}
-use borrow.Author.Rules.{rules}
-use Rattle.detail.proofs.closing.headroom_of.Statement.{statement}
-use Rattle.detail.proofs.closing.headroom_of.Tie as tie
+use Rattle.detail.proofs.closing.headroom_of.Goals as goal
+use Rattle.detail.proofs.closing.headroom_of.Goals.{Start}
 
-module _ (s : tie.Start) where
+module _ (s : Start) where
   abbrev hundredths : ℕ
   hundredths = 100 * s.args.measure.0
 
@@ -35,25 +34,13 @@ module _ (s : tie.Start) where
   headroom-fits : SFits w64 (limit s.args.tier1.0 -ℤ pos hundredths)
   headroom-fits = small-fits tt (small-sub limit-small measure-small)
 
-limit-of-requires : tie.Need-limit-of-requires
-limit-of-requires c κs = search rules
+pub overflow_sub-result : goal.overflow_sub-result
+overflow_sub-result c =
+    let s = (goal.at.overflow_sub-result c).Start in
+    rw (c.limit_of.ensures, limit_is s, measured s) (headroom-fits s)
 
-mul-result : tie.Need-overflow-mul-result
-mul-result c = search rules
-
-cast-result : tie.Need-overflow-cast-result
-cast-result c = search rules
-
-sub-result : tie.Need-overflow-sub-result
-sub-result c =
-    let s = c.before.before in
-    rw (c.before.limit-of.ensures, limit_is s, measured s) (headroom-fits s)
-
-returns : tie.Need-returns
+pub returns : goal.returns
 unfolding headroom
 returns c =
-    let s = c.before.before in
-    rw (c.before.limit-of.ensures, limit_is s, measured s) (to_z-of_z (headroom-fits s))
-
-pub headroom-of-spec : {M : Type 1} → statement M
-headroom-of-spec = tie.close (tie.spec limit-of-requires mul-result cast-result sub-result returns)
+    let s = (goal.at.returns c).Start in
+    rw (c.limit_of.ensures, limit_is s, measured s) (to_z-of_z (headroom-fits s))
