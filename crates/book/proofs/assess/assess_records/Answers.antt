@@ -1,0 +1,27 @@
+-- `assess_records`: the two ways out are those of the paper's outcome.
+use native.Mathlib.Omega.{arith}
+use Rattle.book.proofs.Outcome.{nothing_yet, answers-refused, all-sized, bounds-hold, answers-reported}
+use Rattle.book.proofs.assess.assess_records.Goals as goal
+
+pub load-requires : goal.load-requires
+load-requires c =
+    nothing_yet _ c.args.ledger.now c.requires.report_len.1 c.clear.ensures
+
+pub fill_report-requires : goal.fill_report-requires
+fill_report-requires c =
+    let loads = c.load.ensures in
+    let all = loads.all _ c.in-Kept.is in
+    let sized = all-sized _ _ _ loads.arrays all in
+    let bounds = bounds-hold _ _ _ loads.arrays all in
+    record { report_lengths = (sized.ledger-long, sized.rates-long, sized.add_ons-long, c.requires.report_len.0); tier1_bound = (c.requires.tier1_bound, c.table-factors.ensures); bounds = bounds }
+
+pub returns-in-Refused : goal.returns-in-Refused
+returns-in-Refused c =
+    let load = c.load in
+    answers-refused _ _ _ _ c.requires.report_len.1 load.new.ledger _ _ (load.ensures.stopped _ c.in-Refused.is) (omega arith) c.clear-in-Refused.ensures
+
+pub returns-in-Kept : goal.returns-in-Kept
+returns-in-Kept c =
+    let loads = c.load.ensures in
+    let all = loads.all _ c.in-Kept.is in
+    rw c.fill_report.ensures (answers-reported _ _ _ _ c.requires.report_len.1 _ _ loads.arrays all c.requires.report_len.0)
