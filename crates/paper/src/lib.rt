@@ -1,6 +1,7 @@
 // The paper's own words as types and its numbers as constants, so that its definitions and the code speak of one list of causes and of one size of
 // everything. What is said of the types stands in specs/.
 #![tactic(auto)]
+
 ghost use Rattle.std.specs.Prelude.{[], ◌∷◌, ◌≡◌};
 ghost use Rattle.paper.specs.Ladder.{buckets};
 ghost use Rattle.paper.specs.Records.{currencies, kind_count};

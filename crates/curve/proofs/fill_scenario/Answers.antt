@@ -21,12 +21,13 @@ shocked-rate-requires c =
     record { listed = c.requires.listed; sized = c.requires.sized; shares_value = (c.short_shares-shares.ensures, c.loop-k-test.true) }
 
 -- what was worked out in 64 bits is what stands in 32
-
 module _ (c : After-struct_told-1) where
   abbrev rate : ℤ
   rate = c.shocked-rate.result.0
+
   in-64 : to_z w64 (of_z w64 rate) ≡ rate
   in-64 = back w64 rate c.struct_told-1.given.0.1
+
   in-32 : SFits w32 rate
   in-32 = sfits-abs rate (omega (arith, c.shocked-rate.ensures.result_bound))
 

@@ -18,7 +18,6 @@ pub slice_bounds-fill_scenario-end : goal.slice_bounds-fill_scenario-end
 slice_bounds-fill_scenario-end c = omega (arith, c.loop-scenario.invariant.1.long)
 
 -- the part that is lent has a cell for each bucket
-
 width : (c : In-loop-scenario) → buckets * c.loop-scenario.scenario + buckets - buckets * c.loop-scenario.scenario ≡ buckets
 width c = omega arith
 

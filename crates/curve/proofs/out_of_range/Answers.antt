@@ -19,16 +19,18 @@ pub loop-scenario-init : goal.loop-scenario-init
 loop-scenario-init c = (omega arith, omega arith, λ i h l. absurd (omega arith))
 
 -- what the tests of this scenario's rate tell
-
 module _ (c : After-struct_told-1) where
   curve : Curve
   curve = curve_of c.args.rates.now c.args.shocks
+
   same : to_z w64 (of_z w64 c.shocked-rate.result.0) ≡ c.shocked-rate.result.0
   same = back w64 c.shocked-rate.result.0 c.struct_told-1.given.0.1
+
   tested : {b : Bool} → bad_rate c.shocked-rate.result.0 ≡ b
       → bad_rate (shocked_rate curve c.loop-scenario.scenario c.args.k) ≡ b
   unfolding curve
   tested e = ap bad_rate (sym c.shocked-rate.ensures.result_value) ∙ e
+
   hit : bad_rate c.shocked-rate.result.0 ≡ true → true ≡ bad_shocked curve c.args.k
   hit e = one-bad _ _ _ c.loop-scenario.invariant.0 c.loop-scenario-test.true (tested e)
 

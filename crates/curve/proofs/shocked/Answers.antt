@@ -21,16 +21,19 @@ pub change-moved-requires : goal.change-moved-requires
 change-moved-requires c = record { sized = c.requires.sized; share_le_billion = rw (share-at _ c.requires.shares_value.0 c.requires.shares_value.1) (share-most _) }
 
 -- the base rate and the change, as they were read; the base's twice, since it went into its scale and out again
-
 module _ (c : After-struct_told-2-1) where
   abbrev base : ℤ
   base = get_or c.args.rates.now c.args.k (pos 0)
+
   abbrev moved : ℤ
   moved = c.change-moved.result.0
+
   base-is : to_z w64 (of_z w64 (to_z w64 (of_z w64 base))) ≡ base
   base-is = let e = back w64 base c.base-1.given in rw (e, e)
+
   moved-is : to_z w64 (of_z w64 moved) ≡ moved
   moved-is = back w64 moved c.struct_told-2-1.given.0.1
+
   most : nat_abs (base +ℤ moved) ≤ 550000
   most =
       let ranged = c.requires.listed.at (pos 0) c.args.k c.requires.shares_value.1 in

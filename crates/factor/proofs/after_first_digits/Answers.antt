@@ -13,12 +13,16 @@ use Rattle.factor.proofs.after_first_digits.Goals.{In-loop-row}
 module _ (c : In-loop-row) where
   abbrev row : ℕ
   row = c.loop-row.row
+
   reading : Reading c.args.start c.args.exponent c.loop-row.product c.loop-row.rest c.loop-row.weight row
   reading = c.loop-row.invariant.1
+
   within : row < 11
   within = omega (arith, c.loop-row-test.true)
+
   low : c.loop-row.rest / c.loop-row.weight < 10
   low = rw (digit-is reading within) (digit_low _ _)
+
   entry_here : get_or (get_or c.args.table.now row []) (c.loop-row.rest / c.loop-row.weight) 0
       ≡ entry row (digit c.args.exponent row)
   entry_here =

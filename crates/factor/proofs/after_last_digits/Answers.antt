@@ -26,7 +26,6 @@ loop-row-preserved c =
     (omega arith, omega arith, lower-turn r.2 r.0 c.loop-row-test.true c.lessened-product.ensures)
 
 -- past the loop one digit is left, the last
-
 left : (c : After-loop-row)
     → Reading c.args.start c.args.exponent c.loop-row.product c.loop-row.rest c.loop-row.weight 10
 left c = let e : c.loop-row.row ≡ 10 = omega (arith, c.loop-row.invariant.1) in rw e at c.loop-row.invariant.2

@@ -16,7 +16,6 @@ use Rattle.factor.proofs.factor.Goals as goal
 use Rattle.factor.proofs.factor.Goals.{After-units-units, Else-units-lt0, Then-units-lt0}
 
 -- X as it was read
-
 reach : (c : After-units-units) → InRange c.units-units.result
 reach c = rw c.units-units.ensures c.requires.in_range
 

@@ -7,7 +7,6 @@ use Rattle.factor.proofs.lessened.Goals as goal
 use Rattle.factor.proofs.lessened.Goals.{Start}
 
 -- digit times weight is at most 10^5
-
 part-most : (c : Start) → c.args.product * c.args.digit * c.args.weight ≤ c.args.product * 10 ^ 5
 part-most c = rw (mul_assoc c.args.product c.args.digit c.args.weight) (mul-le-mul_left c.args.product (mul-le-mul (le_of_lt c.requires.1) c.requires.2))
 

@@ -16,7 +16,6 @@ use Rattle.paper.specs.Scales.{billion}
 use Rattle.signed.proofs.rounded.Goals as goal
 
 -- half a divisor more or less fits, and so does the quotient
-
 module _ (z : ℤ) (h : ℕ) (small : nat_abs z ≤ 7000000000000000000) (l : h ≤ billion) where
   low : SFits w64 (z -ℤ pos h)
   low = sfits-abs (z -ℤ pos h) (omega (arith, abs-sub z (pos h)))

@@ -14,7 +14,6 @@ use Rattle.stored.proofs.widen.Goals as goal
 use Rattle.stored.proofs.widen.Goals.{Else-cannot_widen}
 
 -- both are as long as they must be
-
 lengths : (c : Else-cannot_widen) → (length c.args.stored.now ≡ figures stored_currencies) × (figures currencies ≤ length c.args.report.now)
 lengths c = widens _ _ (sym c.cannot_widen.ensures ∙ c.if-cannot_widen.false)
 

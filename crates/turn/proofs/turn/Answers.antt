@@ -6,7 +6,6 @@ use Rattle.turn.proofs.turn.Goals as goal
 use Rattle.turn.proofs.turn.Goals.{In-Record}
 
 -- where the record lies
-
 module _ (c : In-Record) where
   lies : InBook c.args.book.now c.args.at c.in-Record.kind c.in-Record.start c.in-Record.next
   lies = in-book _ _ _ _ _ (sym c.in-Record.is ∙ c.requires.0)

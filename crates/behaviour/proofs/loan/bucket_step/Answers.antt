@@ -13,7 +13,6 @@ interest-charged-requires c =
     record { scheduled_le_billion = (c.requires.rate_le_whole_rate.2, c.requires.rate_le_whole_rate.3, c.requires.rate_le_whole_rate.4); is_value = c.requires.is_value }
 
 -- payment and prepayment are within the balance
-
 within : (c : After-interest-charged) → c.paid-scheduled.result.0 + c.prepaid-early.result.0 ≤ c.args.outstanding.0
 within c = omega (arith, c.paid-scheduled.ensures.0, c.prepaid-early.ensures.1)
 

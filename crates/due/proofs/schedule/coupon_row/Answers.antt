@@ -18,20 +18,21 @@ use Rattle.due.proofs.schedule.coupon_row.Invariants.{by_end}
 use Rattle.due.proofs.schedule.coupon_row.Goals as goal
 use Rattle.due.proofs.schedule.coupon_row.Goals.{After-due_by_ends}
 
-
 end_before : (by : List ℕ) (k : ℕ) → 1 ≤ k → get_or by (k - 1) 0 ≡ by_end by k
 end_before by zero l = absurd (omega arith)
 end_before by (suc k) l = let place : suc k - 1 ≡ k = omega arith in ap (λ (j : ℕ). get_or by j 0) place
 
 -- what is known once every end has its coupons
-
 module _ (d : After-due_by_ends) where
   abbrev coupons : Schedule
   coupons = d.args.coupons
+
   abbrev by : List ℕ
   by = d.due_by_ends.new.by
+
   regular : Regular coupons
   regular = d.requires.regular
+
   -- the whole periods of the months since the start, of which so many are due
   due-at : (k : ℕ) → k ≤ 19 → by_end by k ≡ min coupons.count ((ends k - month_seen (start_of coupons)) / coupons.period)
   due-at zero l =
@@ -42,14 +43,17 @@ module _ (d : After-due_by_ends) where
       row_at _ buckets d.due_by_ends.ensures k (omega arith)
       ∙ ap (λ (m : ℕ). min coupons.count ((ends (suc k) - m) * whole.result / 65536)) d.month_seen-start.ensures
       ∙ ap (λ (n : ℕ). min coupons.count n) (whole.ensures.1 (ends (suc k) - month_seen (start_of coupons)) (omega (arith, end-most k (omega arith))))
+
   in_order : (k : ℕ) → k < 19 → by_end by k ≤ by_end by (suc k)
   in_order k l =
       rw (due-at k (omega arith), due-at (suc k) (omega arith))
       (due-ordered (start_of coupons) coupons.period coupons.count regular.some regular.last k l)
+
   coupons-here : (k : ℕ) → k < 19 → (by_end by (suc k) - by_end by k) * coupons.coupon.0 ≡ coupons_due (start_of coupons) coupons.period coupons.count coupons.coupon.0 k
   coupons-here k l =
       ap₂ (λ (x y : ℕ). (x - y) * coupons.coupon.0) (due-at (suc k) (omega arith)) (due-at k (omega arith))
       ∙ sym (coupons-in (start_of coupons) coupons.period coupons.count regular.some regular.last coupons.coupon.0 k l)
+
   few : (k : ℕ) → k < 19 → by_end by (suc k) ≤ 600
   few k l = omega (arith, due-at (suc k) (omega arith), mul-le-mul_right coupons.count regular.some, regular.last)
 

@@ -17,21 +17,25 @@ use Rattle.due.proofs.schedule.slot_schedule.Goals as goal
 use Rattle.due.proofs.schedule.slot_schedule.Goals.{After-bucket_of-bucket}
 
 -- what is known once the bucket of the amount is
-
 module _ (b : After-bucket_of-bucket) where
   abbrev coupons : Schedule
   coupons = b.args.coupons
+
   abbrev amount : ℕ
   amount = b.args.amount.0
+
   abbrev term : Term
   term = record {
     months = b.args.months;
     days = b.args.days;
   }
+
   abbrev row : List ℕ
   row = b.coupon_row.new.row
+
   whole : set row (b.bucket_of-bucket.result - 1) (get_or row (b.bucket_of-bucket.result - 1) 0 + amount) ≡ tabulate (scheduled coupons term amount) buckets
   whole = amount-row _ row term b.bucket_of-bucket.result amount b.coupon_row.ensures b.bucket_of-bucket.ensures.value
+
   small : coupons.count * coupons.coupon.0 + amount ≤ trillion
   small =
       omega (arith, coupons-most coupons b.requires.regular.0, b.requires.regular.1)

@@ -11,7 +11,6 @@ use Rattle.fields.proofs.rates.rates_at.Goals as goal
 use Rattle.fields.proofs.rates.rates_at.Goals.{At-loop-k}
 
 -- the room keeps its length
-
 kept : (c : At-loop-k) → length c.loop-k.rates ≡ 19
 kept c = filled-length _ _ c.loop-k.invariant.0 c.requires.rates_len c.loop-k.invariant.1
 

@@ -27,17 +27,20 @@ use Rattle.portfolio.proofs.deposit.take_deposit.Goals as goal
 use Rattle.portfolio.proofs.deposit.take_deposit.Goals.{In-Is}
 
 -- what is known once the body has been read
-
 module _ (c : In-Is) where
   abbrev body : List ℕ
   body = c.args.body.now
+
   abbrev fields : Deposit
   fields = c.in-Is.deposit
+
   read : decode_deposit currencies body ≡ accepted (flows fields.currency (deposit_of body fields))
   unfolding deposit_read
   read = sym c.decode_deposit.ensures ∙ ap (deposit_read body) c.in-Is.is
+
   sound : SoundFlows (deposit_of body fields)
   sound = flows-sound (λ _. false) (deposit-kind currencies (λ _. false) body).sound read
+
   within : sum_of (amounts_from body 6) ≤ fields.total.0
   unfolding SoundFlows
   within = core-within fields.category fields.total.0 (amounts_from body 6) sound.3

@@ -30,15 +30,17 @@ use Rattle.portfolio.proofs.loan.take_loan.Goals as goal
 use Rattle.portfolio.proofs.loan.take_loan.Goals.{In-Is}
 
 -- what is known once the body has been read
-
 module _ (c : In-Is) where
   abbrev body : List ℕ
   body = c.args.body.now
+
   abbrev fields : Loan
   fields = c.in-Is.loan
+
   read : decode_loan currencies body ≡ accepted (flows fields.currency (loan_of body fields))
   unfolding loan_read
   read = sym c.decode_loan.ensures ∙ ap (loan_read body) c.in-Is.is
+
   sound : SoundFlows (loan_of body fields)
   sound = flows-sound (λ _. false) (loan-kind currencies (λ _. false) body).sound read
 
@@ -46,7 +48,6 @@ pub decode_loan-requires : goal.decode_loan-requires
 decode_loan-requires c = c.requires.body
 
 -- a loan's nineteen flows at each of the three rates
-
 abbrev row : In-Is → ℕ → ℕ → ℕ
 row w n = loan_flow (behavioural_rate three_multipliers (fields w).share n) (amounts_from (body w) 3) (amounts_from (body w) 79)
 

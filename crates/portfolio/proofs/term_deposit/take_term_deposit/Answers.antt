@@ -33,15 +33,17 @@ use Rattle.portfolio.proofs.term_deposit.take_term_deposit.Goals as goal
 use Rattle.portfolio.proofs.term_deposit.take_term_deposit.Goals.{In-Is}
 
 -- what is known once the body has been read
-
 module _ (c : In-Is) where
   abbrev body : List ℕ
   body = c.args.body.now
+
   abbrev fields : TermDeposit
   fields = c.in-Is.deposit
+
   read : decode_term_deposit currencies body ≡ accepted (flows fields.currency (term_deposit_of body fields))
   unfolding term_deposit_read
   read = sym c.decode_term_deposit.ensures ∙ ap (term_deposit_read body) c.in-Is.is
+
   sound : SoundFlows (term_deposit_of body fields)
   sound = flows-sound (λ _. false) (term-deposit-kind currencies (λ _. false) body).sound read
 
@@ -49,7 +51,6 @@ pub decode_term_deposit-requires : goal.decode_term_deposit-requires
 decode_term_deposit-requires c = c.requires.body
 
 -- a deposit's nineteen flows at each of the three rates
-
 abbrev row : In-Is → ℕ → ℕ → ℕ
 row w n = term_deposit_flow (behavioural_rate three_multipliers (fields w).share n) (amounts_from (body w) 3)
 
@@ -66,7 +67,6 @@ withdrawn_rows-requires c =
     record { body_len = (c.requires.body.long, (sound (goal.at.withdrawn_rows-requires c).In-Is).0.to, refl); at_most = amounts-small (sound (goal.at.withdrawn_rows-requires c).In-Is).1 }
 
 -- no flow is above all that is deposited
-
 row_within : (w : In-Is) (n k : ℕ) → k < buckets → row w n k ≤ sum_of (amounts_from (body w) 3)
 row_within w n k l =
     withdrawn-small (behavioural_rate three_multipliers (fields w).share n) (amounts_from (body w) 3) (rate-at-most three_multipliers (fields w).share n)

@@ -16,7 +16,6 @@ use Rattle.posting.proofs.Sides.{sum_fits}
 use Rattle.posting.proofs.cells.add_cells.Goals as goal
 
 -- a flow as the machine holds it
-
 read_back : (flows : List ℤ) (j : ℕ) → AtMostℤ trillion flows → to_z w64 (of_z w64 (get_or flows j (pos 0))) ≡ get_or flows j (pos 0)
 read_back flows j small = to_z-of_z {w = w64} (sfits-abs (get_or flows j (pos 0)) (omega (arith, small j)))
 

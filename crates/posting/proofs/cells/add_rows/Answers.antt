@@ -16,7 +16,6 @@ use Rattle.posting.proofs.cells.add_rows.Goals as goal
 use Rattle.posting.proofs.cells.add_rows.Goals.{After-shared_slice_known-in-loop-i-1}
 
 -- the row that a scenario has
-
 module _ (rows which : List ℕ) (i : ℕ) where
   abbrev first : ℕ
   first = 19 * get_or which i 0
@@ -37,7 +36,6 @@ module _ (rows which : List ℕ) (i : ℕ) where
       section-at first (first + 19 - first) rows k 0 (omega arith) ∙ ap₂ (λ (n j : ℕ). get_or rows (19 * get_or which n 0 + j) 0) scenario bucket
 
 -- it stands within the rows
-
 within : (c : After-shared_slice_known-in-loop-i-1)
     → first c.args.rows.now c.args.which.now c.loop-i.i + 19
     ≤ length c.args.rows.now

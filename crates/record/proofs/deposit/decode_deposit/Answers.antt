@@ -29,7 +29,6 @@ use Rattle.record.proofs.deposit.decode_deposit.Goals as goal
 use Rattle.record.proofs.deposit.decode_deposit.Goals.{In-Sum}
 
 -- what is left to decode at each field, once those before it are read
-
 at-category : {n currency : ℕ} {body : List ℕ} → Body n currency body → Left (λ b. category_at b 1)
 unfolding decode_deposit
 at-category h = begin (decode_deposit currencies) _ _ h refl refl
@@ -54,7 +53,6 @@ unfolding at_cap
 at-average h e1 e2 e3 e4 = then (at_cap h e1 e2 e3) _ (passing _ _ e4) (rule _ _)
 
 -- the core, once it is read, and the two tests of it
-
 core : (c : In-Sum) → Amounting c.args.body.now 6 c.in-Sum.core.0
 core c = amounts-summed _ 6 c.amounts_at-read.ensures c.in-Sum.is
 

@@ -29,7 +29,6 @@ use Rattle.record.proofs.loan.decode_loan.Goals as goal
 use Rattle.record.proofs.loan.decode_loan.Goals.{In-Sum, In-Sum-read}
 
 -- what is left to decode at each field, once those before it are read
-
 at-share : {n currency : ℕ} {body : List ℕ} → Body n currency body → Left (λ b. share_at b 1)
 unfolding decode_loan
 at-share h = begin (decode_loan currencies) _ _ h refl refl
@@ -59,7 +58,6 @@ unfolding at-alone
 at-schedule h e1 e2 e3 e4 l = then (at-alone h e1 e2 e3) _ (passing-all _ 79 e4 l) (rule _ _)
 
 -- the two rows, once they are read
-
 principals : (c : In-Sum) → Amounting c.args.body.now 3 c.in-Sum.principal.0
 principals c = amounts-summed _ 3 c.amounts_at-read.ensures c.in-Sum.is
 

@@ -18,7 +18,6 @@ use Rattle.record.specs.Answers.{Body}
 use Rattle.record.proofs.option_add_on.decode_values.Goals as goal
 
 -- what is left to decode at each field, once those before it are read
-
 at_side : {n currency : ℕ} {body : List ℕ} → Body n currency body → Left (λ b. side_at b 1)
 unfolding decode_option
 at_side h = begin (decode_option currencies) _ _ h refl refl
@@ -71,7 +70,6 @@ returns-in_default-read-4 c =
     out (at-short-up c.requires.0 c.requires.1 (option-value c.option_at-read.ensures c.in-Value.is) (option-value c.option_at-read-2.ensures c.in-Value-read.is) (option-value c.option_at-read-3.ensures c.in-Value-read-2.is) (option-value c.option_at-read-4.ensures c.in-Value-read-3.is)) (option-bad c.option_at-read-5.ensures c.in_default-read-4.is c.fault-in_default-read-4.ensures)
 
 -- the body's length is told too far back for a search
-
 pub option_at-read-requires-6 : goal.option_at-read-requires-6
 option_at-read-requires-6 c =
     omega (arith, c.requires.0.long)

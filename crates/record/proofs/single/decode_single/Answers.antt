@@ -14,7 +14,6 @@ use Rattle.record.specs.Answers.{Body}
 use Rattle.record.proofs.single.decode_single.Goals as goal
 
 -- what is left to decode at each field, once those before it are read
-
 at_side : {n currency : ℕ} {body : List ℕ} → Body n currency body → Left (λ b. side_at b 1)
 unfolding decode_single
 at_side h = begin (decode_single currencies) _ _ h refl refl

@@ -16,7 +16,6 @@ use Rattle.record.specs.Answers.{Body}
 use Rattle.record.proofs.term_deposit.decode_term_deposit.Goals as goal
 
 -- what is left to decode at each field, once those before it are read
-
 at-share : {n currency : ℕ} {body : List ℕ} → Body n currency body → Left (λ b. share_at b 1)
 unfolding decode_term_deposit
 at-share h = begin (decode_term_deposit currencies) _ _ h refl refl

@@ -9,7 +9,6 @@ use Rattle.rules.proofs.deposit.weighed_core.Goals as goal
 use Rattle.rules.proofs.deposit.weighed_core.Goals.{After-money_at}
 
 -- one bucket more
-
 more : (c : After-money_at)
     → Weighed c.args.body.now (c.loop-k.k + 1)
     (c.loop-k.weighed + c.money_at.result.0 * get_or c.midpoints-middles.result c.loop-k.k 0)

@@ -21,15 +21,17 @@ use Rattle.slotting.proofs.coupons.take_coupons.Goals as goal
 use Rattle.slotting.proofs.coupons.take_coupons.Goals.{In-Is}
 
 -- what is known once the body has been read
-
 module _ (c : In-Is) where
   abbrev body : List ℕ
   body = c.args.body.now
+
   abbrev fields : Coupons
   fields = c.in-Is.bond
+
   read : decode_coupons currencies body ≡ accepted (flows fields.currency (coupons_of fields))
   unfolding coupons_read
   read = sym c.decode_coupons.ensures ∙ ap (coupons_read) c.in-Is.is
+
   sound : SoundFlows (coupons_of fields)
   sound = flows-sound (λ _. false) (coupons-kind currencies (λ _. false) body).sound read
 

@@ -12,12 +12,13 @@ use Rattle.slotting.proofs.curves.enter_curve.Goals as goal
 use Rattle.slotting.proofs.curves.enter_curve.Goals.{In-Is}
 
 -- what is known once a curve was read
-
 module _ (c : In-Is) where
   abbrev fields : Curve
   fields = c.in-Is.curve
+
   abbrev ready : Enterable c.args.decoded c.args.body.now c.args.from c.args.rates.now
   ready = c.requires.enterable
+
   given : c.args.decoded ≡ Is fields
   given = c.in-Is.is
 

@@ -18,15 +18,17 @@ use Rattle.slotting.proofs.floating.take_floating.Goals as goal
 use Rattle.slotting.proofs.floating.take_floating.Goals.{In-Is}
 
 -- what is known once the body has been read
-
 module _ (c : In-Is) where
   abbrev body : List ℕ
   body = c.args.body.now
+
   abbrev fields : Floating
   fields = c.in-Is.position
+
   read : decode_floating currencies body ≡ accepted (flows fields.currency (floating_of fields))
   unfolding floating_read
   read = sym c.decode_floating.ensures ∙ ap (floating_read) c.in-Is.is
+
   sound : SoundFlows (floating_of fields)
   sound = flows-sound (λ _. false) (floating-kind currencies (λ _. false) body).sound read
 

@@ -20,18 +20,21 @@ use Rattle.slotting.proofs.floating_spread.take_floating_spread.Goals as goal
 use Rattle.slotting.proofs.floating_spread.take_floating_spread.Goals.{In-Is}
 
 -- what is known once the body has been read
-
 module _ (c : In-Is) where
   abbrev body : List ℕ
   body = c.args.body.now
+
   abbrev fields : FloatingSpread
   fields = c.in-Is.position
+
   -- what falls due at the reset
   abbrev amount : ℕ
   amount = fields.floating.principal.0 + fields.floating.coupon.0
+
   read : decode_floating_spread currencies body ≡ accepted (flows fields.floating.currency (floating_spread_of fields))
   unfolding floating_spread_read
   read = sym c.decode_floating_spread.ensures ∙ ap floating_spread_read c.in-Is.is
+
   sound : SoundFlows (floating_spread_of fields)
   sound = flows-sound (λ _. false) (floating-spread-kind currencies (λ _. false) body).sound read
 

@@ -19,15 +19,17 @@ use Rattle.slotting.proofs.option_add_on.take_option.Goals as goal
 use Rattle.slotting.proofs.option_add_on.take_option.Goals.{In-Is}
 
 -- what is known once the body has been read
-
 module _ (c : In-Is) where
   abbrev body : List ℕ
   body = c.args.body.now
+
   abbrev fields : OptionAddOn
   fields = c.in-Is.option
+
   read : decode_option currencies body ≡ accepted (option fields.currency fields.side (values_of fields))
   unfolding option_read
   read = sym c.decode_option.ensures ∙ ap option_read c.in-Is.is
+
   small : AtMostℤ billion (values_of fields)
   unfolding Sound
   small = values-small (values_of fields) (known_of (option-kind currencies (λ _. false) body).sound _ read).2

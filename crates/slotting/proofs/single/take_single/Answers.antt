@@ -18,15 +18,17 @@ use Rattle.slotting.proofs.single.take_single.Goals as goal
 use Rattle.slotting.proofs.single.take_single.Goals.{In-Is}
 
 -- what is known once the body has been read
-
 module _ (c : In-Is) where
   abbrev body : List ℕ
   body = c.args.body.now
+
   abbrev fields : Single
   fields = c.in-Is.flow
+
   read : decode_single currencies body ≡ accepted (flows fields.currency (single_of fields))
   unfolding single_read
   read = sym c.decode_single.ensures ∙ ap (single_read) c.in-Is.is
+
   sound : SoundFlows (single_of fields)
   sound = flows-sound (λ _. false) (single-kind currencies (λ _. false) body).sound read
 
