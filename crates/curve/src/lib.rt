@@ -1,5 +1,6 @@
 // Curves and shocks (01, "Curves and shocks"; SRP31.90 to 31.93). Rates are millionths.
 #![tactic(auto)]
+
 ghost use Rattle.std.specs.Prelude.{◌≡◌, ◌<◌, ◌≤◌, pos, nat_abs, ◌*ℤ◌, length, get_or};
 ghost use Rattle.laws.specs.Tests.{first};
 ghost use Rattle.laws.specs.Lists.{tabulate};

@@ -1,5 +1,6 @@
 // What the detail program prints for its input: the report's lines, then what stands behind them. Everything of it but the reading and the writing.
 #![tactic(auto)]
+
 ghost use Rattle.std.specs.Prelude.{List, ◌++◌, ◌≡◌, ◌+◌, ◌≤◌, length, drop};
 ghost use Rattle.paper.specs.Refusals.{accepted};
 ghost use Rattle.paper.specs.Records.{Record, currencies};

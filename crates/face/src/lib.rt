@@ -1,5 +1,6 @@
 // The face of `assess` for callers in other languages, and in widening.rt that of `widen`: numbers and slices only. It is a crate of its own, because the archive proves its crate once more.
 #![tactic(auto)]
+
 ghost use Rattle.book.specs.Assessed.{Truthful};
 ghost use Rattle.face.specs.Face.{Faces};
 

@@ -1,5 +1,6 @@
 // The discount factor, in billionths (01, "Discount factor").
 #![tactic(auto)]
+
 ghost use Rattle.std.specs.Prelude.{◌≡◌, ◌*◌, ◌-◌, ◌%◌, ◌^◌, ◌<◌, ◌≤◌};
 ghost use Rattle.laws.specs.Nearest.{nearest};
 ghost use Rattle.paper.specs.Scales.{billion};

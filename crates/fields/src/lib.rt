@@ -1,6 +1,7 @@
 // A field is its value, unless that is bad. Each reader says what stands at its place in the body by the paper's definition of the field: the value, or the
 // cause with the place of the field, counted from the record's first byte. Money and rates have answers of their own, on their scales.
 #![tactic(auto)]
+
 ghost use Rattle.std.specs.Prelude.{◌≡◌, not, ◌&&◌, ◌||◌, ◌+◌, ◌<◌, ◌≤◌, length};
 ghost use Rattle.std.specs.Int.Signed.{lt_z};
 ghost use Rattle.laws.specs.Tests.{◌up_to◌, ◌below◌};

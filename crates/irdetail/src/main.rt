@@ -1,5 +1,6 @@
 // Reads T and a book from standard input and prints the report and what stands behind it, or the line of the refusal.
 #![tactic(auto)]
+
 use detailing::{LONGEST_DETAIL, print_detail};
 use input::{Input, read_input};
 

@@ -1,5 +1,6 @@
 // Reads T and a book from standard input and prints the report, or the line of the refusal (01, "The report program").
 #![tactic(auto)]
+
 use input::{Input, read_input};
 use printing::print_answer;
 use text::LONGEST_TEXT;

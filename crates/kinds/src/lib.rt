@@ -1,5 +1,6 @@
 // The kinds in code: which there are and how long a body each has, the function of each, and which of them are curves.
 #![tactic(auto)]
+
 ghost use Rattle.std.specs.Prelude.{◌≡◌, ◌≤◌};
 ghost use Rattle.paper.specs.Records.{body_length, curve_kind};
 ghost use Rattle.arrays.specs.Arrays.{PartsHold};

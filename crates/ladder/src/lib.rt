@@ -1,5 +1,6 @@
 // The time ladder (01, "Time ladder"; 001, table 3), and the exponent that a rate and a midpoint make.
 #![tactic(auto)]
+
 ghost use Rattle.std.specs.Prelude.{◌≡◌, ◌<◌, ◌≤◌};
 ghost use Rattle.paper.specs.Ladder.{buckets, bucket_of, midpoints, widths};
 ghost use Rattle.paper.specs.Sound.{Ranged};

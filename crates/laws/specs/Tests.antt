@@ -2,7 +2,6 @@
 use Rattle.std.specs.Prelude.{ℕ, zero, suc, Bool, true, false, ltb, leb, eqb, if◌then◌else◌}
 
 infix 50 ◌is◌ ◌up_to◌ ◌below◌
-
 abbrev pub ◌is◌ : ℕ → ℕ → Bool
 ◌is◌ = eqb
 

@@ -1,5 +1,6 @@
 // A currency's parts of the five arrays, lent in one call to the function of a record's kind.
 #![tactic(auto)]
+
 ghost use Rattle.std.specs.Prelude.{◌≤◌};
 ghost use Rattle.paper.specs.Records.{currencies, body_length};
 ghost use Rattle.arrays.specs.Arrays.{Holding};

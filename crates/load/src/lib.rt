@@ -1,5 +1,6 @@
 // The book is walked record by record into the working arrays, and then 15 is tested (01, "Records", "Turned down").
 #![tactic(auto)]
+
 ghost use Rattle.std.specs.Prelude.{[], ◌≡◌};
 ghost use Rattle.arrays.specs.Arrays.{arrays_of};
 ghost use Rattle.arrays.specs.Lent.{lent, after};

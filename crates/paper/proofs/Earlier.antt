@@ -9,9 +9,8 @@ use lib.ListN.{length}
 use Rattle.std.specs.Prelude.{if◌then◌else◌}
 use Rattle.laws.specs.Tests.{◌up_to◌}
 use Rattle.paper.specs.declared.Refusal.{Refusal}
-use Rattle.paper.specs.Refusals.{number_of, of_field, Checked, accepted, refused, ◌>>=◌, ◌>>◌, unless, refuse_if}
+use Rattle.paper.specs.Refusals.{number_of, of_field, Checked, refused, ◌>>=◌, ◌>>◌, unless, refuse_if}
 use Rattle.paper.specs.Records.{Record, body_length}
-use Rattle.paper.specs.Ledger.{so_far}
 use Rattle.paper.specs.Fields.{byte}
 use Rattle.paper.specs.Book.{placed, record_at, next_at, walk_from, walk, covered, outcome, report_after, ledger_after}
 use Rattle.paper.specs.Earlier.{at_start, earlier_from, earlier, Told, Alike, both-accept, both-refuse, without_place}

@@ -7,7 +7,7 @@ use borrow.Author.Tests.{eqb-true}
 use Rattle.laws.specs.Tests.{◌is◌, all}
 use Rattle.laws.proofs.Tests.{all-at}
 use Rattle.laws.proofs.Lists.{table-most}
-use Rattle.paper.specs.Ladder.{Term, upper_ends, upper_end, widths, width}
+use Rattle.paper.specs.Ladder.{upper_ends, upper_end, widths, width}
 
 between_ends : ℕ → Bool
 between_ends k = (upper_end k).months + width (suc k) is (upper_end (suc k)).months

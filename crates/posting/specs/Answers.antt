@@ -26,11 +26,8 @@ unfoldable pub flows_fit : List ℕ → Checked Record → Checked Record
 flows_fit sizes read = read >>= (λ r. unless (not (room_for (magnitude r) sizes scenarios)) OverLimit 0 r)
 
 pub record FlowsTaken (read : Checked Record) (section : List ℤ) (sizes : List ℕ) (answer : Taken) (section' : List ℤ) (sizes' : List ℕ) : Type 0 where
-
   pub answered : answer ≡ taken_of (flows_fit sizes read)
-
   pub cells : section' ≡ into with_flows (flows_fit sizes read) section
-
   pub sums : sizes' ≡ into with_sizes (flows_fit sizes read) sizes
 
 -- by what the function is lent
@@ -43,11 +40,8 @@ unfoldable pub options_fit : List ℕ → Checked Record → Checked Record
 options_fit sizes read = read >>= (λ r. unless (not (room_for (option_magnitude r) sizes shocked)) OverLimit 0 r)
 
 pub record OptionTaken (read : Checked Record) (sizes : List ℕ) (add_ons : List ℤ) (answer : Taken) (sizes' : List ℕ) (add_ons' : List ℤ) : Type 0 where
-
   pub answered : answer ≡ taken_of (options_fit sizes read)
-
   pub sums : sizes' ≡ into with_option_sizes (options_fit sizes read) sizes
-
   pub values : add_ons' ≡ into with_add_ons (options_fit sizes read) add_ons
 
 abbrev pub TakesOption : Checked Record → Lent ℕ → Lent ℤ → Taken → Type 0
@@ -56,7 +50,5 @@ TakesOption read sizes add_ons answer = OptionTaken read sizes.entry.now add_ons
 -- ---- kinds 8 and 10, in the 133 rates: 14 does not touch a curve
 
 pub record CurveTaken (read : Checked Record) (rates : List ℤ) (answer : Taken) (rates' : List ℤ) : Type 0 where
-
   pub answered : answer ≡ taken_of read
-
   pub filled : rates' ≡ into with_rates read rates

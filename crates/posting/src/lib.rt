@@ -1,5 +1,6 @@
 // What the kinds have in common: their answer, 14 and the sums that it is tested on, and the writers of a section.
 #![tactic(auto)]
+
 ghost use Rattle.std.specs.Prelude.{false, ◌≡◌};
 ghost use Rattle.posting.specs.Parts.{answer_of};
 

@@ -1,5 +1,6 @@
 // What the report program prints for its input (01, "The report program"): everything of it but the reading and the writing.
 #![tactic(auto)]
+
 ghost use Rattle.std.specs.Prelude.{◌++◌, ◌≡◌, ◌≤◌, length, drop};
 ghost use Rattle.paper.specs.Refusals.{number_of};
 ghost use Rattle.paper.specs.Records.{currencies};

@@ -2,6 +2,7 @@
 // parallel, the short and the long shock in basis points; 0 is no line. A correction is one line here and the same one in specs/Published of the paper, whose
 // lists these are proved to be. Nothing is built for a record: the compiler makes a search of each `match`.
 #![tactic(auto)]
+
 ghost use Rattle.std.specs.Prelude.{◌≡◌, ◌+◌, ◌≤◌, length};
 ghost use Rattle.paper.specs.Refusals.{refused};
 ghost use Rattle.paper.specs.Published.{edition1, edition2, shocks_for};

@@ -1,6 +1,7 @@
 // The book is walked record by record, first byte to last: a reader holds the lent book and its position. Its functions take it apart; the work is done on
 // slice and number by `stands_at`.
 #![tactic(auto)]
+
 ghost use Rattle.std.specs.Prelude.{◌≡◌};
 ghost use Rattle.reader.specs.Reader.{stands_at};
 

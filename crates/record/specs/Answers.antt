@@ -36,9 +36,7 @@ use Rattle.record.specs.declared.curves.DecodedCurve.TheVariants as of_curve
 
 -- a whole body of so many bytes, whose first field, the currency, has been read
 pub record Body (bytes currency : ℕ) (body : List ℕ) : Type 0 where
-
   pub long : length body ≡ bytes
-
   pub first : currency_at currencies body 0 ≡ accepted currency
 
 -- ---- what was decoded; amounts and rates by bucket stay in the body

@@ -1,5 +1,6 @@
 // The body of each kind, read field by field as the paper lays it out: the first refusal leaves at once (01, "Records" and "Turned down").
 #![tactic(auto)]
+
 ghost use Rattle.std.specs.Prelude.{◌≡◌};
 ghost use Rattle.fields.specs.Answers.{fault};
 

@@ -1,5 +1,6 @@
 // Rates, midpoints and money are counted on three scales (01, "What the product covers").
 #![tactic(auto)]
+
 ghost use Rattle.std.specs.Prelude.{◌≡◌, pos};
 
 // Rates.

@@ -1,5 +1,6 @@
 // Signed whole numbers: magnitudes, and billionths rounded.
 #![tactic(auto)]
+
 ghost use Rattle.std.specs.Prelude.{◌≡◌, ◌*◌, ◌≤◌, nat_abs};
 ghost use Rattle.laws.specs.Nearest.{nearest_ℤ};
 ghost use Rattle.paper.specs.Scales.{billion};

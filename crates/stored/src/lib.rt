@@ -1,5 +1,6 @@
 // Reports that were stored when currencies were 1 to 8 (02, request 7).
 #![tactic(auto)]
+
 ghost use Rattle.std.specs.Prelude.{◌≡◌, length};
 ghost use Rattle.paper.specs.Records.{currencies};
 ghost use Rattle.paper.specs.Ledger.{figures};

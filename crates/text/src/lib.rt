@@ -1,5 +1,6 @@
 // The lines that `irreport` prints, written into a buffer that the caller lends (01, "The report program").
 #![tactic(auto)]
+
 use paper::CURRENCIES;
 
 pub mod bytes;

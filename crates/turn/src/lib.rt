@@ -1,5 +1,6 @@
 // One turn of the walk. Every kind's body begins with its currency: it is read once, before the kind is looked at, and that currency's parts of the arrays are lent on.
 #![tactic(auto)]
+
 ghost use Rattle.std.specs.Prelude.{false, ◌≡◌, ◌+◌, length};
 ghost use Rattle.paper.specs.Records.{currencies, body_length};
 ghost use Rattle.paper.specs.TurnedDown.{unknown_kind};

@@ -1,5 +1,4 @@
 -- `fill_scenario` meets its contract: the rates up to k are written.
-use Prim.Native.Nat.{◌-◌}
 use mathlib.Core.Path.{◌≡◌, ap, ◌∙◌}
 use native.Mathlib.Omega.{arith}
 use borrow.Author.Rules.{rules}

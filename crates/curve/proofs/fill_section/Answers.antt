@@ -23,8 +23,12 @@ width c = omega arith
 
 pub fill_scenario-requires : goal.fill_scenario-requires
 fill_scenario-requires c =
-    record { listed = c.requires.listed; sized = c.requires.sized; part_len = rw (width (goal.at.fill_scenario-requires c).In-loop-scenario)
-            (length-section (buckets * c.loop-scenario.scenario) buckets c.loop-scenario.section (omega (arith, c.loop-scenario.invariant.1.long))) }
+    record {
+      listed = c.requires.listed;
+      sized = c.requires.sized;
+      part_len = rw (width (goal.at.fill_scenario-requires c).In-loop-scenario)
+          (length-section (buckets * c.loop-scenario.scenario) buckets c.loop-scenario.section (omega (arith, c.loop-scenario.invariant.1.long)));
+    }
 
 pub loop-scenario-preserved : goal.loop-scenario-preserved
 loop-scenario-preserved c =

@@ -1,6 +1,5 @@
 -- `first_out_of_range` meets its contract: no bucket so far has a bad rate.
-use Prim.Native.Nat.{zero-le, ◌-◌}
-use mathlib.Core.Bool.{false}
+use Prim.Native.Nat.{zero-le}
 use mathlib.Core.Path.{sym, ◌∙◌}
 use native.Mathlib.Omega.{arith}
 use borrow.Author.Count.{below_more}

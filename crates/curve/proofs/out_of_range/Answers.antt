@@ -1,7 +1,5 @@
 -- `out_of_range` meets its contract: no rate so far is bad.
-use Prim.Native.Nat.{◌-◌}
-use mathlib.Core.Bool.{Bool, true, false}
-use mathlib.Core.Logic.{⊎_elim}
+use mathlib.Core.Bool.{Bool, true}
 use mathlib.Core.Path.{◌≡◌, sym, ap, ◌∙◌}
 use native.Mathlib.Omega.{arith}
 use borrow.Author.Count.{below_more}
@@ -39,20 +37,19 @@ unfolding curve
 returns-then-rate-ltminus50000 c =
     let d = (goal.at.returns-then-rate-ltminus50000 c).After-struct_told-1 in
     elim c.then-rate-ltminus50000.branch [
-      then-rate-ltminus50000-via-then-rate-ltminus50000 w ↦ hit d (too-low _ (rw (same d) at w.if-rate-ltminus50000.true))
-    | then-rate-ltminus50000-via-else-rate-ltminus50000+then-rate-gt300000 w ↦
-        hit d (too-high _ (rw (same d) at w.if-rate-ltminus50000.false) (rw (same d) at w.if-rate-gt300000.true))
+      | then-rate-ltminus50000-via-then-rate-ltminus50000 w ↦ hit d (too-low _ (rw (same d) at w.if-rate-ltminus50000.true))
+      | then-rate-ltminus50000-via-else-rate-ltminus50000+then-rate-gt300000 w ↦
+          hit d (too-high _ (rw (same d) at w.if-rate-ltminus50000.false) (rw (same d) at w.if-rate-gt300000.true))
     ]
 
 pub loop-scenario-preserved : goal.loop-scenario-preserved
 unfolding curve
-loop-scenario-preserved c =
-    (
-      omega arith,
-      omega arith,
-      below_more _ _ c.loop-scenario.invariant.2
-          (λ l. tested (goal.at.loop-scenario-preserved c).After-struct_told-1 (in-range _ (rw (same (goal.at.loop-scenario-preserved c).After-struct_told-1) at c.if-rate-ltminus50000.false) (rw (same (goal.at.loop-scenario-preserved c).After-struct_told-1) at c.if-rate-gt300000.false))),
-    )
+loop-scenario-preserved c = (
+  omega arith,
+  omega arith,
+  below_more _ _ c.loop-scenario.invariant.2
+      (λ l. tested (goal.at.loop-scenario-preserved c).After-struct_told-1 (in-range _ (rw (same (goal.at.loop-scenario-preserved c).After-struct_told-1) at c.if-rate-ltminus50000.false) (rw (same (goal.at.loop-scenario-preserved c).After-struct_told-1) at c.if-rate-gt300000.false))),
+)
 
 pub returns : goal.returns
 returns c = none-bad _ _ (λ i l h. c.loop-scenario.invariant.2 i (omega arith) l)

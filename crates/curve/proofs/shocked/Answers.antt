@@ -9,7 +9,7 @@ use mir.Syntax.{w64}
 use mir.Val.{to_z, of_z}
 use Rattle.laws.proofs.Widths.{back, sfits-abs}
 use Rattle.laws.proofs.Integers.{abs_is, abs-add}
-use Rattle.paper.specs.Curve.{short_share, shocked_rate}
+use Rattle.paper.specs.Curve.{shocked_rate}
 use Rattle.curve.proofs.Rates.{share-at, share-most}
 use Rattle.curve.proofs.shocked.Goals as goal
 use Rattle.curve.proofs.shocked.Goals.{After-struct_told-2-1}

@@ -61,6 +61,9 @@ rounded-requires c =
 pub returns : goal.returns
 unfolding twisted
 returns c =
-    rw (back w64 c.rounded.result c.rounded.type_inv) record { result_value = (rw (to_z-of_z (overflow_add-by_short (goal.at.returns c).After-weighed-by_long), back w64 c.weighed-by_short.result c.weighed-by_short.type_inv, back w64 c.weighed-by_long.result c.weighed-by_long.type_inv) at c.rounded.ensures)
-          ∙ ap₂ (λ (x y : ℤ). nearest_ℤ (x +ℤ y) billion) (short-is (goal.at.returns c).After-weighed-by_short) (long-is (goal.at.returns c).After-weighed-by_long); result_bound = rw (c.rounded.ensures, to_z-of_z (overflow_add-by_short (goal.at.returns c).After-weighed-by_long), back w64 c.weighed-by_short.result c.weighed-by_short.type_inv, back w64 c.weighed-by_long.result c.weighed-by_long.type_inv)
-          (near_le _ (lit< tt) (omega (arith, abs-add c.weighed-by_short.result c.weighed-by_long.result))) }
+    rw (back w64 c.rounded.result c.rounded.type_inv) record {
+      result_value = (rw (to_z-of_z (overflow_add-by_short (goal.at.returns c).After-weighed-by_long), back w64 c.weighed-by_short.result c.weighed-by_short.type_inv, back w64 c.weighed-by_long.result c.weighed-by_long.type_inv) at c.rounded.ensures)
+          ∙ ap₂ (λ (x y : ℤ). nearest_ℤ (x +ℤ y) billion) (short-is (goal.at.returns c).After-weighed-by_short) (long-is (goal.at.returns c).After-weighed-by_long);
+      result_bound = rw (c.rounded.ensures, to_z-of_z (overflow_add-by_short (goal.at.returns c).After-weighed-by_long), back w64 c.weighed-by_short.result c.weighed-by_short.type_inv, back w64 c.weighed-by_long.result c.weighed-by_long.type_inv)
+          (near_le _ (lit< tt) (omega (arith, abs-add c.weighed-by_short.result c.weighed-by_long.result)));
+    }

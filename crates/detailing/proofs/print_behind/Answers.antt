@@ -18,12 +18,17 @@ pub put_behind-requires : goal.put_behind-requires
 put_behind-requires c =
     let loads = c.load.ensures in
     let all = loads.all _ c.in-Kept.is in
-    let sized = all-sized _ _ _ loads.arrays all in record { longest_behind_in_bounds = omega arith; lengths = record {
-          ledger-long = sized.ledger-long;
-          rates-long = sized.rates-long;
-          add_ons-long = sized.add_ons-long;
-          counts-long = ap length c.tally-count.ensures.counts_after ∙ counts-long c.args.book.now (places c.args.book.now);
-        }; bounds = bounds-hold _ _ _ loads.arrays all; measure_le_most_of_asum = c.requires.measure_le_most_of_asum }
+    let sized = all-sized _ _ _ loads.arrays all in record {
+      longest_behind_in_bounds = omega arith;
+      lengths = record {
+        ledger-long = sized.ledger-long;
+        rates-long = sized.rates-long;
+        add_ons-long = sized.add_ons-long;
+        counts-long = ap length c.tally-count.ensures.counts_after ∙ counts-long c.args.book.now (places c.args.book.now);
+      };
+      bounds = bounds-hold _ _ _ loads.arrays all;
+      measure_le_most_of_asum = c.requires.measure_le_most_of_asum;
+    }
 
 pub returns-in-Refused : goal.returns-in-Refused
 returns-in-Refused c =

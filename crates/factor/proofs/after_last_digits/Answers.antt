@@ -1,5 +1,4 @@
 -- `after_last_digits` meets its contract. The invariant is `Reading`, from the seventh row on.
-use Prim.Native.Nat.{◌-◌}
 use mathlib.Core.Path.{◌≡◌}
 use native.Mathlib.Omega.{arith}
 use Rattle.factor.proofs.Digits.{Reading, most, begun, weighs, digit-is, digit_low, light, lower-turn, last-low, last_turn}

@@ -1,5 +1,5 @@
 -- `take_parts`: the five parts of the currency are lent, and come back.
-use Rattle.arrays.specs.Arrays.{Arrays, arrays_as}
+use Rattle.arrays.specs.Arrays.{arrays_as}
 use Rattle.arrays.proofs.Bounds.{parts-hold}
 use Rattle.lending.proofs.Parts.{lent-hold, lent-taken}
 use Rattle.lending.proofs.take_parts.Goals as goal

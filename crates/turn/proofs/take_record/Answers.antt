@@ -1,17 +1,13 @@
 -- `take_record`: the currency is bad, the record refused, or taken.
-use Prim.Native.Nat.{ℕ, ◌+◌}
-use mathlib.Core.Bool.{Bool, true, false}
-use mathlib.Core.List.{List}
+use mathlib.Core.Bool.{Bool}
 use mathlib.Core.Path.{◌≡◌, sym, ap, ◌∙◌}
 use native.Mathlib.Omega.{arith}
-use Rattle.paper.specs.declared.Fault.{Fault}
 use Rattle.paper.specs.Refusals.{accepted}
-use Rattle.paper.specs.Records.{currencies, curve_kind}
+use Rattle.paper.specs.Records.{currencies}
 use Rattle.paper.specs.Fields.{currency_at}
 use Rattle.paper.specs.Sound.{Between}
 use Rattle.paper.proofs.Checks.{known_of}
 use Rattle.paper.proofs.Ranges.{currency-known}
-use Rattle.arrays.specs.declared.masks.Masks.{Masks}
 use Rattle.arrays.specs.Masks.{marked_by}
 use Rattle.arrays.specs.Arrays.{Arrays, arrays_as}
 use Rattle.lending.specs.Records.{tested}
@@ -59,8 +55,13 @@ placed-requires-in-Refused c =
     let l = c.take_parts.new in
     let before = tested c.args.masks.curved a in
     let f = c.in-Refused.fault in
-    omega (arith, c.requires.0, c.requires.2, fault-inside before c.args.kind c.args.body.now f
-    (refused-read before c.args.kind c.args.body.now f {a = a} {a' = arrays_as l.ledger l.rates l.addons l.sizes l.options} c.take_parts.ensures c.in-Refused.is))
+    omega (
+      arith,
+      c.requires.0,
+      c.requires.2,
+      fault-inside before c.args.kind c.args.body.now f
+          (refused-read before c.args.kind c.args.body.now f {a = a} {a' = arrays_as l.ledger l.rates l.addons l.sizes l.options} c.take_parts.ensures c.in-Refused.is),
+    )
 
 pub marked-requires : goal.marked-requires
 marked-requires c = let r = range (goal.at.marked-requires c).In-Value in (r.from, r.to)

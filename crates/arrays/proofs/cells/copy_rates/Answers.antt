@@ -1,5 +1,4 @@
 -- `copy_rates`: filled from the front, each rate as it is.
-use Prim.Native.Nat.{◌-◌}
 use mathlib.Core.Path.{ap, ◌∙◌}
 use native.Mathlib.Omega.{arith}
 use lib.IntN.{ℤ, pos}

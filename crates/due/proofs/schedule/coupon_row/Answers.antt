@@ -1,6 +1,6 @@
 -- The buckets passed have what is due by their ends less what is due by the ends before.
 use Prim.Native.Nat.{ℕ, zero, suc, ◌*◌, ◌-◌, ◌/◌, ◌≤◌, ◌<◌, min}
-use mathlib.Core.List.{List, ◌∷◌}
+use mathlib.Core.List.{List}
 use mathlib.Core.Path.{◌≡◌, sym, ap, ap₂, ◌∙◌}
 use native.Mathlib.Nat.{zero-div, mul-le-mul, mul-le-mul_right}
 use native.Mathlib.Omega.{arith}

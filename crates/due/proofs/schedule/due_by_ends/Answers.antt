@@ -1,5 +1,4 @@
 -- The buckets passed have the coupons due by their ends.
-use Prim.Native.Nat.{◌-◌}
 use native.Mathlib.Omega.{arith}
 use borrow.Author.Rules.{rules}
 use Rattle.laws.proofs.Filling.{filled_none, filled_next, filled-all}

@@ -54,11 +54,14 @@ overflow_add-row c =
 
 pub enter_row-requires : goal.enter_row-requires
 enter_row-requires c =
-    let rule = scheduled (coupons (goal.at.enter_row-requires c).After-bucket_of-bucket) (term (goal.at.enter_row-requires c).After-bucket_of-bucket) (amount (goal.at.enter_row-requires c).After-bucket_of-bucket) in record { row_len = (
+    let rule = scheduled (coupons (goal.at.enter_row-requires c).After-bucket_of-bucket) (term (goal.at.enter_row-requires c).After-bucket_of-bucket) (amount (goal.at.enter_row-requires c).After-bucket_of-bucket) in record {
+      row_len = (
         row-long rule buckets (whole (goal.at.enter_row-requires c).After-bucket_of-bucket),
         row_small rule buckets trillion (whole (goal.at.enter_row-requires c).After-bucket_of-bucket) (λ k l. omega (arith, scheduled-small (coupons (goal.at.enter_row-requires c).After-bucket_of-bucket) (term (goal.at.enter_row-requires c).After-bucket_of-bucket) (amount (goal.at.enter_row-requires c).After-bucket_of-bucket) k l, small (goal.at.enter_row-requires c).After-bucket_of-bucket)),
         small (goal.at.enter_row-requires c).After-bucket_of-bucket,
-      ); flow_parts = c.requires.flow_parts }
+      );
+      flow_parts = c.requires.flow_parts;
+    }
 
 pub returns : goal.returns
 returns c =

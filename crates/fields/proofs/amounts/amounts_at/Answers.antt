@@ -1,5 +1,4 @@
 -- `amounts_at` meets its contract: no amount so far is above its limit, and the sum is theirs.
-use Prim.Native.Nat.{◌-◌}
 use mathlib.Core.Path.{◌≡◌, sym}
 use native.Mathlib.Omega.{arith}
 use Rattle.fields.proofs.Reading.{amount-value, amount-bad}

@@ -1,5 +1,4 @@
 -- `rates_at` meets its contract: every rate so far is in range, and the room holds them.
-use Prim.Native.Nat.{◌-◌}
 use mathlib.Core.Path.{◌≡◌}
 use native.Mathlib.Omega.{arith}
 use lib.ListN.{length}
@@ -24,13 +23,12 @@ pub bounds-rates-k : goal.bounds-rates-k
 bounds-rates-k c = omega (arith, kept (goal.at.bounds-rates-k c).At-loop-k)
 
 pub loop-k-preserved : goal.loop-k-preserved
-loop-k-preserved c =
-    (
-      omega arith,
-      rw (back w64 c.in-Value.rate.0 c.struct_told-1.given.0.1)
-          (filled_more _ _ _ _ _ _ c.loop-k-test.true c.requires.rates_len c.loop-k.invariant.1
-          (rate-value c.rate_at-read.ensures c.in-Value.is)),
-    )
+loop-k-preserved c = (
+  omega arith,
+  rw (back w64 c.in-Value.rate.0 c.struct_told-1.given.0.1)
+      (filled_more _ _ _ _ _ _ c.loop-k-test.true c.requires.rates_len c.loop-k.invariant.1
+      (rate-value c.rate_at-read.ensures c.in-Value.is)),
+)
 
 pub returns : goal.returns
 returns c =

@@ -58,11 +58,14 @@ unfolding SoundFlows
 enter_row-requires c =
     let whole = (fields (goal.at.enter_row-requires c).In-Is).total.0 in
     let core = amounts_from (body (goal.at.enter_row-requires c).In-Is) 6 in
-    let filled = c.core_row.ensures in record { row_len = (
+    let filled = c.core_row.ensures in record {
+      row_len = (
         row-long (deposit_flow whole core) buckets filled,
         row_small (deposit_flow whole core) buckets trillion filled (λ k l. omega (arith, core-small whole core (amounts-few (body (goal.at.enter_row-requires c).In-Is) 6) (within (goal.at.enter_row-requires c).In-Is) k l, (sound (goal.at.enter_row-requires c).In-Is).1.to)),
         omega (arith, (sound (goal.at.enter_row-requires c).In-Is).1.to),
-      ); flow_parts = c.requires.flow_parts }
+      );
+      flow_parts = c.requires.flow_parts;
+    }
 
 pub returns-in-Refused : goal.returns-in-Refused
 unfolding deposit_read

@@ -68,13 +68,16 @@ enter_rows-requires c =
     let share = (fields (goal.at.enter_rows-requires c).In-Is).share in
     let filled = c.loan_rows.ensures in
     let long = row-long (λ n. sum (row (goal.at.enter_rows-requires c).In-Is n) buckets) 3 filled.sums_after in
-    let small = loan-small (amounts_from (body (goal.at.enter_rows-requires c).In-Is) 3) (amounts_from (body (goal.at.enter_rows-requires c).In-Is) 79) (amounts-few (body (goal.at.enter_rows-requires c).In-Is) 79) (schedule-of share _ _ (sound (goal.at.enter_rows-requires c).In-Is)) in record { row_parts = record {
+    let small = loan-small (amounts_from (body (goal.at.enter_rows-requires c).In-Is) 3) (amounts_from (body (goal.at.enter_rows-requires c).In-Is) 79) (amounts-few (body (goal.at.enter_rows-requires c).In-Is) 79) (schedule-of share _ _ (sound (goal.at.enter_rows-requires c).In-Is)) in record {
+      row_parts = record {
         rows_long = omega (arith, row-long (by_place (row (goal.at.enter_rows-requires c).In-Is)) 57 filled.rows_after, long);
         which-long = refl;
         which-in = λ i l. omega (arith, tied-within which prepayment_multipliers chosen i l, long);
         rows-small = row_small (by_place (row (goal.at.enter_rows-requires c).In-Is)) 57 trillion filled.rows_after (λ j l. omega (arith, (small (behavioural_rate three_multipliers share (j / buckets))).1 (j % buckets) (omega arith)));
         sums-small = row_small (λ n. sum (row (goal.at.enter_rows-requires c).In-Is n) buckets) 3 trillion filled.sums_after (λ n l. omega (arith, (small (behavioural_rate three_multipliers share n)).0));
-      }; flow_parts = c.requires.flow_parts }
+      };
+      flow_parts = c.requires.flow_parts;
+    }
 
 pub returns-in-Refused : goal.returns-in-Refused
 unfolding loan_read

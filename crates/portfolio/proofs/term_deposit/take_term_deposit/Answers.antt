@@ -89,15 +89,18 @@ enter_rows-requires c =
     let w = (goal.at.enter_rows-requires c).In-Is in
     -- all that is deposited, at every rate
     let summed = c.row_sum-sums.ensures ∙ first-sum (row w) c.withdrawn_rows.ensures
-        ∙ moves-add-up (behavioural_rate three_multipliers (fields w).share 0) (amounts_from (body w) 3) (rate-at-most three_multipliers (fields w).share 0) (amounts-few (body w) 3) in
+    ∙ moves-add-up (behavioural_rate three_multipliers (fields w).share 0) (amounts_from (body w) 3) (rate-at-most three_multipliers (fields w).share 0) (amounts-few (body w) 3) in
     let filled = c.withdrawn_rows.ensures in
-    let most = amounts-most (amounts_from (body w) 3) (amounts-few (body w) 3) (amounts-small (sound w).1) in record { row_parts = record {
+    let most = amounts-most (amounts_from (body w) 3) (amounts-few (body w) 3) (amounts-small (sound w).1) in record {
+      row_parts = record {
         rows_long = row-long (by_place (row w)) 57 filled;
         which-long = refl;
         which-in = tied-within which withdrawal_multipliers chosen;
         rows-small = rows-small w filled;
         sums-small = replicate-all 0 (λ n. n ≤ trillion) 3 c.row_sum-sums.result.0 (omega (arith, summed, most)) (omega arith);
-      }; flow_parts = c.requires.flow_parts }
+      };
+      flow_parts = c.requires.flow_parts;
+    }
 
 pub returns-in-Refused : goal.returns-in-Refused
 unfolding term_deposit_read
@@ -108,7 +111,7 @@ returns-in-Is c =
     let w = (goal.at.returns-in-Is c).In-Is in
     -- all that is deposited, at every rate
     let summed = c.row_sum-sums.ensures ∙ first-sum (row w) c.withdrawn_rows.ensures
-        ∙ moves-add-up (behavioural_rate three_multipliers (fields w).share 0) (amounts_from (body w) 3) (rate-at-most three_multipliers (fields w).share 0) (amounts-few (body w) 3) in
+    ∙ moves-add-up (behavioural_rate three_multipliers (fields w).share 0) (amounts_from (body w) 3) (rate-at-most three_multipliers (fields w).share 0) (amounts-few (body w) 3) in
     let d = fields w in
     let amounts = amounts_from (body w) 3 in
     let within = tied-within which withdrawal_multipliers chosen in

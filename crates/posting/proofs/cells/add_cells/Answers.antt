@@ -1,5 +1,5 @@
 -- Each cell passed has its own flow; the others are as they were.
-use Prim.Native.Nat.{ℕ, ◌-◌}
+use Prim.Native.Nat.{ℕ}
 use mathlib.Core.List.{List}
 use mathlib.Core.Path.{◌≡◌}
 use native.Mathlib.Omega.{arith}
@@ -25,8 +25,11 @@ loop-j-init c = (search rules, search rules, joining-none +ℤ_idr _ _)
 pub add_into-requires : goal.add_into-requires
 add_into-requires c =
     let at = c.loop-j in
-    let same = joining-rest +ℤ_idr at.invariant.2 at.j (search rules) (search rules) in record { at_in_bounds = search rules; sfits = rw (read_back c.args.flows.now at.j c.requires.fact_2)
-          (sum_fits (get_or at.cells at.j (pos 0)) (get_or c.args.flows.now at.j (pos 0)) (rw same (c.requires.fact at.j)) (c.requires.fact_2 at.j)) }
+    let same = joining-rest +ℤ_idr at.invariant.2 at.j (search rules) (search rules) in record {
+      at_in_bounds = search rules;
+      sfits = rw (read_back c.args.flows.now at.j c.requires.fact_2)
+          (sum_fits (get_or at.cells at.j (pos 0)) (get_or c.args.flows.now at.j (pos 0)) (rw same (c.requires.fact at.j)) (c.requires.fact_2 at.j));
+    }
 
 pub loop-j-preserved : goal.loop-j-preserved
 loop-j-preserved c =

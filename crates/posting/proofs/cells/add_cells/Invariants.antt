@@ -1,7 +1,7 @@
 -- What the loop of `add_cells` keeps, and why it ends.
 use Prim.Native.Nat.{◌-◌, ◌≤◌}
 use mathlib.Core.Path.{◌≡◌}
-use lib.IntN.{ℤ, pos, ◌+ℤ◌}
+use lib.IntN.{pos, ◌+ℤ◌}
 use lib.ListN.{length, get_or}
 use Rattle.posting.proofs.Loops.{Joining}
 use Rattle.posting.proofs.cells.add_cells.Given as goal

@@ -1,5 +1,5 @@
 -- What the loop of `add_row` keeps, and why it ends.
-use Prim.Native.Nat.{◌+◌, ◌*◌, ◌-◌, ◌%◌, ◌≤◌}
+use Prim.Native.Nat.{◌*◌, ◌-◌, ◌%◌, ◌≤◌}
 use mathlib.Core.Path.{◌≡◌}
 use lib.IntN.{pos, ◌+ℤ◌}
 use lib.ListN.{length, get_or}

@@ -1,9 +1,8 @@
 -- What the loop of `add_rows` keeps, and why it ends.
-use Prim.Native.Nat.{◌+◌, ◌*◌, ◌-◌, ◌≤◌}
+use Prim.Native.Nat.{◌*◌, ◌-◌, ◌≤◌}
 use mathlib.Core.Path.{◌≡◌}
 use lib.IntN.{pos, ◌+ℤ◌}
 use lib.ListN.{length}
-use Rattle.laws.specs.Lists.{section}
 use Rattle.paper.specs.Flow.{sided}
 use Rattle.posting.specs.Parts.{row_flow}
 use Rattle.posting.proofs.Loops.{Joining}

@@ -1,5 +1,4 @@
 -- The scenarios passed have the sums of their rows.
-use Prim.Native.Nat.{◌-◌}
 use mathlib.Core.Path.{refl}
 use native.Mathlib.Omega.{arith}
 use borrow.Author.Rules.{rules}

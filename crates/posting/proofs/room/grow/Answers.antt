@@ -1,5 +1,4 @@
 -- Each sum passed has its own addition; the others are as they were.
-use Prim.Native.Nat.{◌-◌}
 use mathlib.Core.Path.{refl}
 use native.Mathlib.Nat.{add-zero}
 use native.Mathlib.Omega.{arith}

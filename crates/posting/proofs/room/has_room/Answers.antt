@@ -1,5 +1,4 @@
 -- The sums passed stay within the limit; the first that does not is enough.
-use Prim.Native.Nat.{◌-◌}
 use mathlib.Core.Path.{sym}
 use native.Mathlib.Omega.{arith}
 use lib.ListN.{get_or}

@@ -4,7 +4,6 @@ use mathlib.Core.List.{List}
 use mathlib.Core.Path.{refl, sym}
 use native.Mathlib.Omega.{arith}
 use borrow.Author.Tests.{lt-ltb, le-ltb}
-use borrow.Author.Rules.{rules}
 use Rattle.laws.specs.Tests.{◌below◌, first}
 use Rattle.laws.specs.Sums.{sum_of}
 use Rattle.paper.specs.declared.Refusal.TheVariants.{InterestAlone, OverLimit}

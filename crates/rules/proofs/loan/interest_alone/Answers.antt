@@ -1,5 +1,5 @@
 -- `interest_alone` meets its contract: no bucket so far has its interest alone, and what is scheduled is kept.
-use Prim.Native.Nat.{ℕ, ◌-◌}
+use Prim.Native.Nat.{ℕ}
 use mathlib.Core.Bool.{◌&&◌}
 use mathlib.Core.Path.{◌≡◌, sym, ap, ◌∙◌}
 use native.Mathlib.Omega.{arith}

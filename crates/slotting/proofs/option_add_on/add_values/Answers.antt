@@ -1,5 +1,4 @@
 -- Each add-on passed has its own value; the others are as they were.
-use Prim.Native.Nat.{◌-◌}
 use mathlib.Core.Path.{ap, ◌∙◌}
 use native.Mathlib.Omega.{arith}
 use lib.IntN.{pos, +ℤ_idr}
@@ -24,8 +23,11 @@ pub add_into-requires : goal.add_into-requires
 add_into-requires c =
     let at = c.loop-j in
     let z = get_or c.args.values.now at.j (pos 0) in
-    let same = joining-rest +ℤ_idr at.invariant.2 at.j (search rules) (search rules) in record { at_in_bounds = search rules; sfits = rw (c.sided-value.ensures ∙ ap (sided c.args.side) (back w64 z c.sided-arg-1.given))
-          (sum_fits (get_or at.addons at.j (pos 0)) (sided c.args.side z) (rw same (omega (arith, c.requires.fact at.j))) (rw (abs-sided c.args.side z) (omega (arith, c.requires.fact_2 at.j)))) }
+    let same = joining-rest +ℤ_idr at.invariant.2 at.j (search rules) (search rules) in record {
+      at_in_bounds = search rules;
+      sfits = rw (c.sided-value.ensures ∙ ap (sided c.args.side) (back w64 z c.sided-arg-1.given))
+          (sum_fits (get_or at.addons at.j (pos 0)) (sided c.args.side z) (rw same (omega (arith, c.requires.fact at.j))) (rw (abs-sided c.args.side z) (omega (arith, c.requires.fact_2 at.j))));
+    }
 
 pub loop-j-preserved : goal.loop-j-preserved
 loop-j-preserved c =

@@ -1,5 +1,4 @@
 -- The digits before the last are those of a tenth of the number, which is less.
-use Prim.Native.Nat.{ℕ, ◌<◌}
 use native.Mathlib.Omega.{arith}
 use Rattle.text.proofs.Writing.{wrote_then}
 use Rattle.text.proofs.Decimals.{decimal_digit, decimal-more, front_length}
