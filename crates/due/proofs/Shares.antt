@@ -8,9 +8,7 @@ use Rattle.laws.specs.Tests.{◌is◌, ◌up_to◌, all}
 use Rattle.laws.proofs.Tests.{and-true, all-at}
 use Rattle.due.specs.Schedules.{month_ends}
 use Rattle.due.proofs.Periods.{ends}
-
-abbrev share : ℕ → ℕ
-share period = (65535 + period) / period
+use Rattle.due.proofs.PeriodShare.{share}
 
 abbrev divides : ℕ → Bool
 divides period = share period up_to 65536 && all (λ m. m * share period / 65536 is m / period) 0 602
