@@ -17,7 +17,7 @@ use paper::BUCKETS;
 use scales::Thousands;
 
 // A bucket's flow, and what is outstanding after it.
-#[derive(Drop)]
+#[derive(Clone, Copy)]
 struct Step {
     flow: Thousands,
     left: Thousands,

@@ -14,7 +14,7 @@ use scales::Thousands;
 use valuation::fill_report;
 
 // The report was written, and these currencies have a curve, as a mask; or the book was turned down for a cause at a place.
-#[derive(Drop)]
+#[derive(Clone, Copy)]
 pub enum Assessed {
     Reported(u32),
     Refused(Fault),

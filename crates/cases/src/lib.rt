@@ -12,7 +12,7 @@ pub use scan::skip;
 use scan::{Read, line_end};
 
 // Where the bytes begin, where the next case begins, and how many bytes there are; or it is badly written.
-#[derive(Drop)]
+#[derive(Clone, Copy)]
 pub enum Case {
     Found(usize, usize, usize),
     Bad,

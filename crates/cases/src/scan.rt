@@ -3,7 +3,7 @@ ghost use Rattle.std.specs.Prelude.{◌≡◌, ℕ, ◌+◌, ◌≤◌, ◌<◌,
 ghost use Rattle.cases.specs.declared.scan.Read.TheVariants.{To};
 
 // The place after what was read, and the number that it gave; or it is badly written.
-#[derive(Drop)]
+#[derive(Clone, Copy)]
 pub enum Read {
     To(usize, usize),
     Bad,

@@ -14,7 +14,7 @@ use posting::flows::enter_row;
 use scales::Thousands;
 
 // A coupon at the end of each of so many periods after the start.
-#[derive(Drop)]
+#[derive(Clone, Copy)]
 pub struct Schedule {
     pub months: u32,
     pub days: u32,

@@ -61,7 +61,7 @@ fn lessened(product: u64, digit: u64, weight: u64) -> u64
 }
 
 // A product, and the digits of the exponent that are still to come.
-#[derive(Drop)]
+#[derive(Clone, Copy)]
 struct Begun {
     product: u64,
     rest: u64,

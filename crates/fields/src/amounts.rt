@@ -8,14 +8,14 @@ use crate::bytes::money_at;
 use paper::{BUCKETS, Fault, Refusal};
 use scales::Thousands;
 
-#[derive(Drop)]
+#[derive(Clone, Copy)]
 pub enum Amount {
     Value(Thousands),
     Bad(Fault),
 }
 
 // Their sum, or the first that is above its limit.
-#[derive(Drop)]
+#[derive(Clone, Copy)]
 pub enum Amounts {
     Sum(Thousands),
     Bad(Fault),

@@ -18,7 +18,7 @@ pub mod bytes;
 pub mod options;
 pub mod rates;
 
-#[derive(Drop)]
+#[derive(Clone, Copy)]
 pub enum Field {
     Value(u32),
     Bad(Fault),

@@ -8,7 +8,7 @@ use crate::outside;
 use paper::{Fault, Refusal};
 use scales::SignedThousands;
 
-#[derive(Drop)]
+#[derive(Clone, Copy)]
 pub enum OptionValue {
     Value(SignedThousands),
     Bad(Fault),

@@ -9,14 +9,14 @@ use crate::outside;
 use paper::{BUCKETS, Fault, Refusal};
 use scales::Millionths;
 
-#[derive(Drop)]
+#[derive(Clone, Copy)]
 pub enum Rate {
     Value(Millionths),
     Bad(Fault),
 }
 
 // All are in range, or the first that is not.
-#[derive(Drop)]
+#[derive(Clone, Copy)]
 pub enum Rates {
     All,
     Bad(Fault),

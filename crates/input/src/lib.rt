@@ -8,7 +8,7 @@ ghost use Rattle.input.specs.declared.Input.TheVariants.{Bytes};
 use std::io::Read;
 
 // So many bytes stand in the room; or a read failed.
-#[derive(Drop)]
+#[derive(Clone, Copy)]
 pub enum Input {
     Bytes(usize),
     Failed,

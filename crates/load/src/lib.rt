@@ -14,7 +14,7 @@ use walk::walk;
 mod walk;
 
 // The records are kept, and these currencies have a curve, as a mask; or the book is turned down for a cause at a place.
-#[derive(Drop)]
+#[derive(Clone, Copy)]
 pub enum Loaded {
     Kept(u32),
     Refused(Fault),

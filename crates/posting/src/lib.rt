@@ -11,7 +11,7 @@ pub mod flows;
 pub mod room;
 
 // One answer for every kind: the record is taken, or refused for a cause at a place.
-#[derive(Drop)]
+#[derive(Clone, Copy)]
 pub enum Taken {
     Done,
     Refused(Fault),

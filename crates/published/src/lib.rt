@@ -115,7 +115,7 @@ fn edition_2(code: u32) -> u32
     }
 }
 
-#[derive(Drop)]
+#[derive(Clone, Copy)]
 pub enum ListedShocks {
     Are(Shocks),
     Bad(Fault),

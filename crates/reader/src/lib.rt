@@ -14,7 +14,7 @@ pub struct Reader<'a> {
 }
 
 // What stands at a position. A record is told by its kind, where its body begins, and where it ends, which is the place of the next.
-#[derive(Drop)]
+#[derive(Clone, Copy)]
 pub enum Found {
     End,
     UnknownKind,

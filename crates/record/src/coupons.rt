@@ -9,7 +9,7 @@ use fields::{Field, count_at, period_at, side_at};
 use paper::Fault;
 use scales::Thousands;
 
-#[derive(Drop)]
+#[derive(Clone, Copy)]
 pub struct Coupons {
     pub currency: u32,
     pub side: u32,
@@ -19,7 +19,7 @@ pub struct Coupons {
     pub principal: Thousands,
 }
 
-#[derive(Drop)]
+#[derive(Clone, Copy)]
 pub enum DecodedCoupons {
     Is(Coupons),
     Refused(Fault),

@@ -15,13 +15,13 @@ use fields::{Field, shock_at};
 use paper::{BUCKETS, Fault, Refusal, Shocks};
 use published::{ListedShocks, listed_at};
 
-#[derive(Drop)]
+#[derive(Clone, Copy)]
 pub struct Curve {
     pub currency: u32,
     pub shocks: Shocks,
 }
 
-#[derive(Drop)]
+#[derive(Clone, Copy)]
 pub enum DecodedCurve {
     Is(Curve),
     Refused(Fault),

@@ -12,14 +12,14 @@ use paper::{Fault, Refusal};
 use rules::deposit::{above_cap, too_long, weighed_core};
 use scales::Thousands;
 
-#[derive(Drop)]
+#[derive(Clone, Copy)]
 pub struct Deposit {
     pub currency: u32,
     pub category: u32,
     pub total: Thousands,
 }
 
-#[derive(Drop)]
+#[derive(Clone, Copy)]
 pub enum DecodedDeposit {
     Is(Deposit),
     Refused(Fault),

@@ -9,7 +9,7 @@ use fields::{Field, days_at, months_at, side_at};
 use paper::{Fault, Refusal};
 use scales::Thousands;
 
-#[derive(Drop)]
+#[derive(Clone, Copy)]
 pub struct Floating {
     pub currency: u32,
     pub side: u32,
@@ -19,7 +19,7 @@ pub struct Floating {
     pub coupon: Thousands,
 }
 
-#[derive(Drop)]
+#[derive(Clone, Copy)]
 pub enum DecodedFloating {
     Is(Floating),
     Refused(Fault),

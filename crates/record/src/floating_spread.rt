@@ -10,7 +10,7 @@ use fields::{Field, count_at, period_at};
 use paper::Fault;
 use scales::Thousands;
 
-#[derive(Drop)]
+#[derive(Clone, Copy)]
 pub struct FloatingSpread {
     pub floating: Floating,
     pub period: u32,
@@ -18,7 +18,7 @@ pub struct FloatingSpread {
     pub spread: Thousands,
 }
 
-#[derive(Drop)]
+#[derive(Clone, Copy)]
 pub enum DecodedFloatingSpread {
     Is(FloatingSpread),
     Refused(Fault),

@@ -11,13 +11,13 @@ use fields::{Field, share_at};
 use paper::{BUCKETS, Fault, Refusal};
 use rules::loan::interest_alone;
 
-#[derive(Drop)]
+#[derive(Clone, Copy)]
 pub struct Loan {
     pub currency: u32,
     pub share: u32,
 }
 
-#[derive(Drop)]
+#[derive(Clone, Copy)]
 pub enum DecodedLoan {
     Is(Loan),
     Refused(Fault),

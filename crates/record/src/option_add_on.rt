@@ -11,7 +11,7 @@ use fields::{Field, side_at};
 use paper::Fault;
 use scales::SignedThousands;
 
-#[derive(Drop)]
+#[derive(Clone, Copy)]
 pub struct OptionAddOn {
     pub currency: u32,
     pub side: u32,
@@ -23,7 +23,7 @@ pub struct OptionAddOn {
     pub short_down: SignedThousands,
 }
 
-#[derive(Drop)]
+#[derive(Clone, Copy)]
 pub enum DecodedOption {
     Is(OptionAddOn),
     Refused(Fault),

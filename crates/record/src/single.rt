@@ -9,7 +9,7 @@ use fields::{Field, days_at, months_at, side_at};
 use paper::Fault;
 use scales::Thousands;
 
-#[derive(Drop)]
+#[derive(Clone, Copy)]
 pub struct Single {
     pub currency: u32,
     pub side: u32,
@@ -18,7 +18,7 @@ pub struct Single {
     pub amount: Thousands,
 }
 
-#[derive(Drop)]
+#[derive(Clone, Copy)]
 pub enum DecodedSingle {
     Is(Single),
     Refused(Fault),

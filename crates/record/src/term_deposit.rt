@@ -8,13 +8,13 @@ use fields::amounts::{Amounts, amounts_at};
 use fields::{Field, share_at};
 use paper::Fault;
 
-#[derive(Drop)]
+#[derive(Clone, Copy)]
 pub struct TermDeposit {
     pub currency: u32,
     pub share: u32,
 }
 
-#[derive(Drop)]
+#[derive(Clone, Copy)]
 pub enum DecodedTermDeposit {
     Is(TermDeposit),
     Refused(Fault),

@@ -12,7 +12,7 @@ use arrays::cells::{clear, copy};
 use paper::{CHANGES, FIGURES, Fault, Refusal, STORED_CHANGES, STORED_FIGURES};
 
 // The report was written; or it was not, for a cause at a place.
-#[derive(Drop)]
+#[derive(Clone, Copy)]
 pub enum Widened {
     Written,
     Refused(Fault),

@@ -18,14 +18,14 @@ use posting::Taken;
 use reader::Found;
 
 // All records are kept, with the currencies that they use and curve; or one is refused.
-#[derive(Drop)]
+#[derive(Clone, Copy)]
 pub enum Walked {
     All(Masks),
     Refused(Fault),
 }
 
 // After a record that is kept the walk goes on, at the next place and with the currencies used and curved so far. Else it is over. The answer is the walk's, if it ends there.
-#[derive(Drop)]
+#[derive(Clone, Copy)]
 pub struct Step {
     pub on: bool,
     pub next: usize,

@@ -37,7 +37,7 @@ pub fn scenario_sum(changes: &[i64], last: usize, scenario: usize) -> Thousands
 }
 
 // The greatest of the six sums, and the smallest scenario number that reaches it, 0 if it is 0.
-#[derive(Drop)]
+#[derive(Clone, Copy)]
 pub struct Greatest {
     pub sum: Thousands,
     pub scenario: u64,
