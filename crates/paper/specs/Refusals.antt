@@ -1,7 +1,8 @@
 -- Turned down: the number of each cause, a value that may be refused instead, and what a caller is told of it. Each number's circumstance is in TurnedDown.antt.
-use Rattle.std.specs.Prelude.{ℕ, Bool, true, false, ◌&&◌, ◌||◌}
+use Rattle.std.specs.Prelude.{ℕ, Bool, true, false, ◌&&◌, ◌||◌, Result, Ok, Err}
 use Rattle.laws.specs.Tests.{◌is◌, ◌up_to◌}
 use Rattle.paper.specs.declared.Refusal.{Refusal}
+use Rattle.paper.specs.declared.Fault.{Fault}
 use Rattle.paper.specs.declared.Refusal.TheVariants.{UnknownKind, CutShort, BadCurrency, BadSide, BadTerm, TooLarge, BadShare, BadCategory, CoreAboveCap, CoreTooLong, InterestAlone, SecondCurve, OutOfRange, OverLimit, NoCurve, BadCapital, BookTooLong, RoomTooSmall, UnknownEdition, CodeNotListed}
 
 unfoldable pub number_of : Refusal → ℕ
@@ -62,3 +63,18 @@ pub data Answer : Type 0 where
 unfoldable pub answer_of : {A : Type 0} → Checked A → Answer
 answer_of (accepted a) = reported
 answer_of (refused r place) = turned_down (number_of r) place
+
+-- ---- as the code says it
+
+abbrev pub fault : Refusal → ℕ → Fault
+fault q place = record { cause = q; place = place }
+
+-- what stands for the value, or the fault
+abbrev pub result_of : {A B : Type 0} → (A → B) → Checked A → Result B Fault
+result_of as_code (accepted x) = Ok (as_code x)
+result_of as_code (refused q place) = Err (fault q place)
+
+-- and back: what a result stands for
+unfoldable pub checked_as : {A B : Type 0} → (A → B) → Result A Fault → Checked B
+checked_as as_paper (Ok x) = accepted (as_paper x)
+checked_as as_paper (Err f) = refused f.cause f.place

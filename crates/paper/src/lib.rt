@@ -2,13 +2,15 @@
 // everything. What is said of the types stands in specs/.
 #![tactic(auto)]
 
-ghost use Rattle.std.specs.Prelude.{[], ◌∷◌, ◌≡◌};
+ghost use Rattle.std.specs.Prelude.{[], ◌∷◌, ◌≡◌, pos};
 ghost use Rattle.paper.specs.Ladder.{buckets};
 ghost use Rattle.paper.specs.Records.{currencies, kind_count};
 ghost use Rattle.paper.specs.Flow.{scenarios, shocked};
 ghost use Rattle.paper.specs.Ledger.{section_size, cells, figures};
 ghost use Rattle.paper.specs.TurnedDown.{longest_book};
 ghost use Rattle.paper.specs.Stored.{stored_currencies};
+ghost use Rattle.paper.specs.Refusals.{number_of};
+ghost use Rattle.paper.specs.Verdict.{verdict_number};
 
 pub const CURRENCIES: usize = 32;
 
@@ -64,7 +66,7 @@ fn sizes() -> [usize; 11]
 // Turned down: the causes, in the order of their numbers. `number_of` in specs/Refusals.antt gives each one's number.
 #[derive(Clone, Copy)]
 pub enum Refusal {
-    UnknownKind,
+    UnknownKind = 1,
     CutShort,
     BadCurrency,
     BadSide,
@@ -86,6 +88,14 @@ pub enum Refusal {
     CodeNotListed,
 }
 
+impl From<Refusal> for u32 {
+    ghost from_gives = { λ cause number. number ≡ number_of cause };
+
+    fn from(cause: Refusal) -> u32 {
+        cause as u32
+    }
+}
+
 // A cause, and the place of what is at fault.
 #[derive(Clone, Copy)]
 pub struct Fault {
@@ -104,7 +114,15 @@ pub struct Shocks {
 // The verdict against Tier 1 capital. `verdict_number` in specs/Verdict.antt gives each one's number.
 #[derive(Clone, Copy)]
 pub enum Verdict {
-    Over,
+    Over = 1,
     Within,
     Close,
+}
+
+impl From<Verdict> for i64 {
+    ghost from_gives = { λ verdict number. number ≡ pos (verdict_number verdict) };
+
+    fn from(verdict: Verdict) -> i64 {
+        verdict as i64
+    }
 }
