@@ -13,19 +13,14 @@ use Rattle.paper.specs.declared.Fault.{Fault}
 use Rattle.paper.specs.declared.Refusal.TheVariants.{TooLarge}
 use Rattle.paper.specs.Scales.{billion}
 use Rattle.paper.specs.Ladder.{buckets}
-use Rattle.paper.specs.Refusals.{Checked, accepted, refused}
+use Rattle.std.specs.Prelude.{Result, Ok, Err}
+use Rattle.paper.specs.Refusals.{Checked, accepted, refused, result_of}
 use Rattle.paper.specs.TurnedDown.{bad_amount}
 use Rattle.paper.specs.Fields.{four, amount_at, each}
 use Rattle.scales.specs.declared.Thousands.{Thousands}
-use Rattle.fields.specs.declared.amounts.Amounts.{Amounts}
-use Rattle.fields.specs.declared.amounts.Amounts.TheVariants.{Sum, Bad}
-use Rattle.fields.specs.Answers.{thousands, amounts_from, amounts_of}
+use Rattle.fields.specs.Answers.{thousands, amounts_from, total}
 use Rattle.fields.proofs.FieldLaws.{field-accepts, each-good, each-bad, each-accepts}
-
--- an answer's own cases
-was-accepted : (m : Checked (List ℕ)) (s : Thousands) → amounts_of m ≡ Sum s → (xs : List ℕ) × (m ≡ accepted xs) × (s.0 ≡ sum_of xs)
-was-accepted (accepted xs) s e = (xs, refl, cc)
-was-accepted (refused q place) s e = ([], cc, cc)
+use Rattle.fields.proofs.Reading.{some-value}
 
 all-limits : sum (λ k. billion) buckets ≡ billion * buckets
 unfolding sum
@@ -59,12 +54,12 @@ module _ (body : List ℕ) (o : ℕ) where
 
   -- the loop left at bucket k + 1, or after the last
   pub summed-stops : (k s : ℕ) {f : Fault} → Summed k s → k < buckets → amount_at body (o + 4 * k) ≡ refused f.cause f.place
-      → amounts_of (each (amount_at body) buckets o) ≡ Bad f
-  summed-stops k s h l e = ap amounts_of (each-bad bad_amount TooLarge (four body) o buckets k l e h.good)
+      → result_of total (each (amount_at body) buckets o) ≡ Err f
+  summed-stops k s h l e = ap (result_of total) (each-bad bad_amount TooLarge (four body) o buckets k l e h.good)
 
-  pub summed-ends : (s : ℕ) → Summed buckets s → amounts_of (each (amount_at body) buckets o) ≡ Sum (thousands s)
+  pub summed-ends : (s : ℕ) → Summed buckets s → result_of total (each (amount_at body) buckets o) ≡ Ok (thousands s)
   summed-ends s h =
-      ap amounts_of (each-good bad_amount TooLarge (four body) o buckets h.good) ∙ ap (λ (n : ℕ). Sum (thousands n)) (sum-tabulate amount buckets ∙ sym h.total)
+      ap (result_of total) (each-good bad_amount TooLarge (four body) o buckets h.good) ∙ ap (λ (n : ℕ). Ok (thousands n)) (sum-tabulate amount buckets ∙ sym h.total)
 
   -- what an answer tells of the amounts
   pub record Amounting (s : ℕ) : Type 0 where
@@ -76,9 +71,9 @@ module _ (body : List ℕ) (o : ℕ) where
   unfolding bad_amount
   limited h = omega (arith, sum-tabulate amount buckets, sum-le amount (λ k. billion) buckets (λ k l. ltb-false _ _ (h k l)), all-limits)
 
-  pub amounts-summed : {r : Amounts} {s : Thousands} → r ≡ amounts_of (each (amount_at body) buckets o) → r ≡ Sum s → Amounting s.0
-  amounts-summed {r} {s} p e =
-      let t = was-accepted (each (amount_at body) buckets o) s (sym p ∙ e) in
+  pub amounts-summed : {s : Thousands} → Ok s ≡ result_of total (each (amount_at body) buckets o) → Amounting s.0
+  amounts-summed {s} e =
+      let t = some-value total (each (amount_at body) buckets o) e in
       let u = each-accepts bad_amount TooLarge (four body) o buckets t.0 t.1 in
-      let same : s.0 ≡ sum_of (amounts_from body o) = t.2 ∙ ap sum_of u.0 in
+      let same : s.0 ≡ sum_of (amounts_from body o) = ap (λ (x : Thousands). x.0) t.2 ∙ ap sum_of u.0 in
       record { list = t.1 ∙ ap accepted u.0; total = same; small = omega (arith, limited u.1) }

@@ -1,6 +1,6 @@
 -- What a field comes to where its value is bad and where it is not, and n fields in a row. Of the paper's definitions alone.
 use Prim.Native.Nat.{ℕ, zero, suc, ◌+◌, ◌*◌, ◌≤◌, ◌<◌}
-use mathlib.Core.Bool.{Bool, true, false, ◌||◌}
+use mathlib.Core.Bool.{Bool, true, false, not, ◌||◌}
 use mathlib.Core.List.{List, ◌∷◌}
 use mathlib.Core.Logic.{◌⊎◌, inl, inr, ⊎_elim}
 use mathlib.Core.Path.{◌≡◌, refl, sym, ap, ◌∙◌}
@@ -16,9 +16,12 @@ use Rattle.laws.specs.Lists.{tabulate_from, tabulate}
 use Rattle.laws.proofs.Tests.{lt-or-ge, first_holds, first-before}
 use Rattle.paper.specs.declared.Refusal.{Refusal}
 use Rattle.paper.specs.Scales.{billion}
-use Rattle.paper.specs.Refusals.{Checked, accepted, refused, ◌>>=◌, unless}
+use Rattle.paper.specs.declared.Fault.{Fault}
+use Rattle.paper.specs.Refusals.{Checked, accepted, refused, ◌>>=◌, unless, result_of}
 use Rattle.paper.specs.TurnedDown.{bad_period, bad_option}
 use Rattle.paper.specs.Fields.{field, each}
+use Rattle.std.specs.Prelude.{Result}
+use Rattle.fields.specs.Answers.{as_it_is}
 
 -- ---- one field
 
@@ -31,17 +34,15 @@ module _ {A : Type 0} (bad : A → Bool) (q : Refusal) where
   unfolding field unless
   field-bad o x e = rw e
 
-  -- in an answer that holds what was tested
-  pub field-read : (o : ℕ) {F : Type 0} (of : Checked A → F) {r : F} {x y : A} → r ≡ of (unless (bad x) q (o + 1) x) → x ≡ y → r ≡ of (field bad q o y)
-  unfolding field
-  field-read o of p e = p ∙ rw (add-one o, e)
-
-  -- in an answer to a test of w, which is what was tested
-  pub field-taken : (o : ℕ) {F : Type 0} (of : Checked A → F) {w x y : A} → bad w ≡ false → w ≡ x → x ≡ y → of (accepted x) ≡ of (field bad q o y)
-  field-taken o of {x = x} t d e = ap of (sym (field-good o x (rw d at t))) ∙ rw e
-
-  pub field-refused : (o : ℕ) {F : Type 0} (of : Checked A → F) {w x y : A} → bad w ≡ true → w ≡ x → x ≡ y → of (refused q (o + 1)) ≡ of (field bad q o y)
-  field-refused o of {x = x} t d e = rw (add-one o) (ap of (sym (field-bad o x (rw d at t))) ∙ rw e)
+  -- as the code answers it, where `good` is the test that was made
+  pub answered : (o : ℕ) {B : Type 0} (as_code : A → B) (good : Bool) {x : B} {y : A} {r : Result B Fault}
+      → r ≡ result_of as_it_is (field (λ _. not good) q o x) → not good ≡ bad y → x ≡ as_code y → r ≡ result_of as_code (field bad q o y)
+  unfolding field unless
+  answered o as_code good {y = y} p t e = p ∙ rw (t, e) (by (bad y))
+    where
+      by : (b : Bool) → result_of as_it_is (unless b q (suc o) (as_code y)) ≡ result_of as_code (unless b q (suc o) y)
+      by true = refl
+      by false = refl
 
 -- and back
 module _ {A : Type 0} (bad : A → Bool) (q : Refusal) (o : ℕ) (x : A) where
@@ -61,7 +62,7 @@ module _ {A : Type 0} (bad : A → Bool) (q : Refusal) (o : ℕ) (x : A) where
       by true t u = t
       by false t u = cc
 
-or_nothing : (b : Bool) → b || false ≡ b
+pub or_nothing : (b : Bool) → b || false ≡ b
 or_nothing true = refl
 or_nothing false = refl
 

@@ -1,10 +1,16 @@
 -- `category_at` meets its contract: its range is the paper's.
+use mathlib.Core.Path.{ap, ◌∙◌}
+use mathlib.Core.Bool.{not}
 use Rattle.paper.specs.declared.Refusal.TheVariants.{BadCategory}
 use Rattle.paper.specs.TurnedDown.{bad_category}
-use Rattle.fields.specs.Answers.{field_of}
-use Rattle.fields.proofs.FieldLaws.{field-read}
+use Rattle.fields.specs.Answers.{as_it_is}
+use Rattle.fields.proofs.FieldLaws.{answered}
+use Rattle.fields.proofs.Ranges.{nat-contained}
 use Rattle.fields.proofs.category_at.Goals as goal
 
 pub returns : goal.returns
 unfolding bad_category
-returns c = field-read bad_category BadCategory _ field_of c.between.ensures c.byte_at.ensures
+returns c =
+    let s = c.new.ensures in
+    let value = c.byte_at-category.ensures in
+    answered bad_category BadCategory _ as_it_is _ c.field.ensures (ap not (c.contains.ensures.value ∙ nat-contained _ s.start s.end s.exhausted) ∙ ap bad_category value) value

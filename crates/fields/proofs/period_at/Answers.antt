@@ -1,15 +1,21 @@
--- `period_at` meets its contract: the four arms are the four periods.
+-- `period_at` meets its contract: the four that are good are the four periods.
+use mathlib.Core.Path.{◌≡◌, sym, ap, ◌∙◌}
+use mathlib.Core.Bool.{not}
+use native.Mathlib.Omega.{arith}
+use Rattle.std.proofs.Common.{rules}
+use Rattle.std.proofs.lemmas.Bool.Decides.{nat_tests}
 use Rattle.paper.specs.declared.Refusal.TheVariants.{BadTerm}
-use Rattle.paper.specs.Refusals.{unless}
 use Rattle.paper.specs.TurnedDown.{bad_period}
-use Rattle.fields.specs.Answers.{field_of}
-use Rattle.fields.proofs.FieldLaws.{field-read, period-listed, period-unlisted}
+use Rattle.fields.specs.Answers.{as_it_is}
+use Rattle.fields.proofs.FieldLaws.{answered, period-listed, period-unlisted}
 use Rattle.fields.proofs.period_at.Goals as goal
+use Rattle.fields.proofs.period_at.Goals.{in-1, in_default}
 
-pub returns-in-1 : goal.returns-in-1
-unfolding unless
-returns-in-1 c = field-read bad_period BadTerm _ field_of (rw (period-listed _ c.in-1.is)) c.byte_at-period.ensures
+tested : (c : goal.After-field) → not c.match-matches.matches ≡ bad_period c.byte_at-period.result
+unfolding bad_period
+tested c = elim c.match-matches.branch [ in-1 w ↦ rw (w.matches-is, period-listed _ w.in-1.is) | in_default w ↦ rw (w.matches-is) (sym (period-unlisted c.byte_at-period.result (search rules))) ]
 
-pub returns-in_default : goal.returns-in_default
-unfolding unless
-returns-in_default c = field-read bad_period BadTerm _ field_of (rw (period-unlisted _ c.in_default.in_default-own.rest.1)) c.byte_at-period.ensures
+pub returns : goal.returns
+returns c =
+    let value = c.byte_at-period.ensures in
+    answered bad_period BadTerm _ as_it_is _ c.field.ensures (tested c ∙ ap bad_period value) value

@@ -1,10 +1,14 @@
 -- `shock_at` meets its contract: its range is the paper's.
+use mathlib.Core.Path.{ap, ◌∙◌}
 use Rattle.paper.specs.declared.Refusal.TheVariants.{OutOfRange}
 use Rattle.paper.specs.TurnedDown.{bad_shock}
-use Rattle.fields.specs.Answers.{field_of}
-use Rattle.fields.proofs.FieldLaws.{field-read}
+use Rattle.fields.specs.Answers.{as_it_is}
+use Rattle.fields.proofs.FieldLaws.{answered}
+use Rattle.fields.proofs.Ranges.{above}
 use Rattle.fields.proofs.shock_at.Goals as goal
 
 pub returns : goal.returns
 unfolding bad_shock
-returns c = field-read bad_shock OutOfRange _ field_of c.at_most.ensures c.two_at.ensures.0
+returns c =
+    let value = c.two_at-shock.ensures.0 in
+    answered bad_shock OutOfRange _ as_it_is _ c.field.ensures (above _ _ ∙ ap bad_shock value) value

@@ -1,16 +1,14 @@
 -- `amount_at` meets its contract: its range is the paper's.
-use borrow.Author.Tests.{lt-ltb, le-ltb}
+use mathlib.Core.Path.{ap, ◌∙◌}
 use Rattle.paper.specs.declared.Refusal.TheVariants.{TooLarge}
-use Rattle.paper.specs.Refusals.{unless}
 use Rattle.paper.specs.TurnedDown.{bad_amount}
-use Rattle.fields.specs.Answers.{amount_field_of}
-use Rattle.fields.proofs.FieldLaws.{field-read}
+use Rattle.fields.specs.Answers.{thousands}
+use Rattle.fields.proofs.FieldLaws.{answered}
+use Rattle.fields.proofs.Ranges.{above}
 use Rattle.fields.proofs.amounts.amount_at.Goals as goal
 
-pub returns-then-amount-gt1000000000 : goal.returns-then-amount-gt1000000000
-unfolding unless bad_amount
-returns-then-amount-gt1000000000 c = field-read bad_amount TooLarge _ amount_field_of (rw (lt-ltb _ _ c.if-amount-gt1000000000.true)) c.money_at-amount.ensures.0
-
 pub returns : goal.returns
-unfolding unless bad_amount
-returns c = field-read bad_amount TooLarge _ amount_field_of (rw (le-ltb _ _ c.if-amount-gt1000000000.false)) c.money_at-amount.ensures.0
+unfolding bad_amount
+returns c =
+    let value = c.money_at-amount.ensures.0 in
+    answered bad_amount TooLarge _ thousands _ c.field.ensures (above _ _ ∙ ap bad_amount value) (ap thousands value)

@@ -1,5 +1,0 @@
--- `Rate::fault` meets its contract, variant by variant.
-use Rattle.fields.proofs.rates.Rate.fault.Goals as goal
-
-pub returns-in-Value : goal.returns-in-Value
-returns-in-Value c = rw c.in-Value.is
