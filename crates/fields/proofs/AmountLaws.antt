@@ -1,7 +1,7 @@
 -- Nineteen amounts in a row: what the loop over them knows, and what its answer tells.
 use Prim.Native.Nat.{ℕ, ◌+◌, ◌*◌, ◌≤◌, ◌<◌}
 use mathlib.Core.Bool.{false}
-use mathlib.Core.List.{List, []}
+use mathlib.Core.List.{List}
 use mathlib.Core.Path.{◌≡◌, refl, sym, ap, ◌∙◌}
 use native.Mathlib.Omega.{arith}
 use borrow.Author.Count.{below_more}
@@ -13,8 +13,8 @@ use Rattle.paper.specs.declared.Fault.{Fault}
 use Rattle.paper.specs.declared.Refusal.TheVariants.{TooLarge}
 use Rattle.paper.specs.Scales.{billion}
 use Rattle.paper.specs.Ladder.{buckets}
-use Rattle.std.specs.Prelude.{Result, Ok, Err}
-use Rattle.paper.specs.Refusals.{Checked, accepted, refused, result_of}
+use Rattle.std.specs.Prelude.{Ok, Err}
+use Rattle.paper.specs.Refusals.{accepted, refused, result_of}
 use Rattle.paper.specs.TurnedDown.{bad_amount}
 use Rattle.paper.specs.Fields.{four, amount_at, each}
 use Rattle.scales.specs.declared.Thousands.{Thousands}

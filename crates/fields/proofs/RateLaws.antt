@@ -1,7 +1,7 @@
 -- The nineteen rates of a curve: what the loop over them knows, and what its answer tells.
 use Prim.Native.Nat.{ℕ, ◌+◌, ◌*◌, ◌^◌, ◌≤◌, ◌<◌}
 use mathlib.Core.Bool.{false}
-use mathlib.Core.List.{List, [], ◌++◌}
+use mathlib.Core.List.{List, ◌++◌}
 use mathlib.Core.Path.{◌≡◌, refl, sym, ap, ◌∙◌}
 use native.Mathlib.Numerals.{add-one}
 use native.Mathlib.Omega.{arith}
@@ -20,7 +20,7 @@ use Rattle.paper.specs.declared.Fault.{Fault}
 use Rattle.paper.specs.declared.Refusal.TheVariants.{OutOfRange}
 use Rattle.paper.specs.Ladder.{buckets}
 use Rattle.std.specs.Prelude.{Result, Ok, Err}
-use Rattle.paper.specs.Refusals.{Checked, accepted, refused, result_of}
+use Rattle.paper.specs.Refusals.{accepted, refused, result_of}
 use Rattle.paper.specs.TurnedDown.{bad_rate}
 use Rattle.paper.specs.Fields.{four, signed, rate_at, each}
 use Rattle.paper.specs.Sound.{Listed, Ranged}

@@ -27,7 +27,7 @@ pub fn three_at(body: &[u8], at: usize) -> u32
 
 pub fn four_at(body: &[u8], at: usize) -> u32
     requires { at + 4 ≤ length body.now }
-    ensures { (result ≡ four body.now at) × (result < 4294967296) }
+    ensures { result ≡ four body.now at }
 {
     u32::from_be_bytes([body[at], body[at + 1], body[at + 2], body[at + 3]])
 }

@@ -3,7 +3,7 @@
 #![tactic(auto)]
 
 ghost use Rattle.std.specs.Prelude.{◌≡◌, not, ◌+◌, ◌<◌, ◌≤◌, length};
-ghost use Rattle.paper.specs.Refusals.{result_of};
+ghost use Rattle.paper.specs.Refusals.{fault, result_of};
 ghost use Rattle.paper.specs.Records.{currencies};
 ghost use Rattle.paper.specs.Fields.{field, currency_at, side_at, months_at, days_at, period_at, count_at, share_at, category_at, shock_at};
 ghost use Rattle.fields.specs.Answers.{as_it_is};
@@ -29,6 +29,13 @@ fn field<T: Copy>(value: T, good: bool, cause: Refusal, at: usize) -> Result<T, 
             place: at + 1,
         })
     }
+}
+
+// Of a rule that a record breaks as a whole: the place is its first byte, the kind.
+pub fn record_fault(cause: Refusal) -> Fault
+    ensures { result ≡ fault cause 0 }
+{
+    Fault { cause, place: 0 }
 }
 
 pub fn currency_at(body: &[u8], at: usize) -> Result<u32, Fault>

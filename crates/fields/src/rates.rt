@@ -30,9 +30,8 @@ pub fn rates_at(body: &[u8], from: usize, rates: &mut [i64]) -> Result<(), Fault
     ensures value { result ≡ result_of no_value (each (rate_at body.now) buckets from) }
     ensures rates_after { rates.new ≡ rates_set body.now from rates.old }
 {
-    for k in 0..BUCKETS {
-        let rate = rate_at(body, from + 4 * k)?;
-        rates[k] = rate.0;
+    for (k, millionths) in rates.iter_mut().enumerate() {
+        *millionths = rate_at(body, from + 4 * k)?.0;
     }
     Ok(())
 }

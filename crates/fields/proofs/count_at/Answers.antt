@@ -14,8 +14,8 @@ tested : (c : goal.After-field) → not c.if-count-ge1.field ≡ bad_count c.arg
 unfolding bad_count
 tested c =
     elim c.if-count-ge1.branch [
-      then-count-ge1 w ↦ rw (w.field-is, c.from.ensures, c.from-2.ensures, c.from-3.ensures, le-ltb _ _ w.if-count-ge1.true) (above _ _)
-    | else-count-ge1 w ↦ rw (w.field-is, lt-leb _ _ w.if-count-ge1.false, lt-ltb _ _ w.if-count-ge1.false)
+      | then-count-ge1 w ↦ rw (w.field-is, c.from.ensures, c.from-2.ensures, c.from-3.ensures, le-ltb _ _ w.if-count-ge1.true) (above _ _)
+      | else-count-ge1 w ↦ rw (w.field-is, lt-leb _ _ w.if-count-ge1.false, lt-ltb _ _ w.if-count-ge1.false)
     ]
 
 pub returns : goal.returns

@@ -1,9 +1,7 @@
 -- `period_at` meets its contract: the four that are good are the four periods.
 use mathlib.Core.Path.{◌≡◌, sym, ap, ◌∙◌}
 use mathlib.Core.Bool.{not}
-use native.Mathlib.Omega.{arith}
 use Rattle.std.proofs.Common.{rules}
-use Rattle.std.proofs.lemmas.Bool.Decides.{nat_tests}
 use Rattle.paper.specs.declared.Refusal.TheVariants.{BadTerm}
 use Rattle.paper.specs.TurnedDown.{bad_period}
 use Rattle.fields.specs.Answers.{as_it_is}

@@ -15,4 +15,4 @@ as-signed n l = rw (lt-ltb _ _ l)
 pub returns : goal.returns
 returns c =
     back w64 _ c.from.type_inv ∙ c.from.ensures ∙ back w32 _ c.cast_signed.type_inv ∙ c.cast_signed.ensures
-    ∙ as-signed _ c.four_at.ensures.1 ∙ ap signed c.four_at.ensures.0
+    ∙ as-signed _ c.four_at.type_inv ∙ ap signed c.four_at.ensures

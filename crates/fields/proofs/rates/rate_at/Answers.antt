@@ -1,5 +1,5 @@
 -- `rate_at` meets its contract: its range is that of a rate.
-use mathlib.Core.Path.{sym, ap, ◌∙◌}
+use mathlib.Core.Path.{ap, ◌∙◌}
 use mathlib.Core.Bool.{not}
 use mir.Syntax.{w64}
 use Rattle.laws.proofs.Widths.{back}
