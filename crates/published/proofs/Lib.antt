@@ -1,4 +1,2 @@
 -- a code found in a list or not, and what a line says
 pub mod Lines
--- what the reader's answer tells
-pub mod Reading

@@ -10,15 +10,16 @@ use lib.ListN.{length, get_or-eq_default}
 use Rattle.laws.specs.Tests.{◌is◌, ◌up_to◌}
 use Rattle.laws.proofs.Tests.{lt-or-ge, and-true, none_first}
 use Rattle.paper.specs.declared.Refusal.TheVariants.{UnknownEdition, CodeNotListed}
-use Rattle.paper.specs.Refusals.{accepted, refused, ◌>>◌, unless}
+use Rattle.std.specs.Option.{ok_or}
+use Rattle.fields.specs.Answers.{as_it_is}
+use Rattle.paper.specs.Refusals.{accepted, refused, ◌>>◌, unless, fault, result_of}
 use Rattle.paper.specs.declared.Shocks.{Shocks}
 use Rattle.paper.specs.Published.{Entry, unlisted, code_at, line_of, list_of, shocks_for, Sizes}
 use Rattle.paper.specs.TurnedDown.{unknown_edition, code_not_listed}
 use Rattle.paper.specs.Fields.{byte, three, listed_at}
 use Rattle.paper.proofs.Published.{listed-sized}
-use Rattle.published.specs.declared.ListedShocks.{ListedShocks}
-use Rattle.published.specs.declared.ListedShocks.TheVariants.{Are}
-use Rattle.published.specs.Lines.{in_digits, listed_of, Says}
+use Rattle.std.specs.Prelude.{Option, Some, None}
+use Rattle.published.specs.Lines.{in_digits, Says}
 
 -- ---- a code that a list has: an arm's line is that of its key
 pub line : (list : List Entry) {code key : ℕ} → code ≡ key → in_digits (shocks_for list key) ≡ in_digits (shocks_for list code)
@@ -66,15 +67,17 @@ module _ (body : List ℕ) (o : ℕ) (edition : ℕ) (list : List Entry) (named 
   unfolding code_not_listed
   no_line t = ltb-false _ _ (not-true _ t)
 
-  pub listed_in : {line : ℕ} {answer : ListedShocks} → line ≡ in_digits (shocks_for list code) → Says line answer → answer ≡ listed_of (listed_at body o)
-  listed_in {line} {answer} e says = by (code_not_listed edition code) refl
+  -- the code is not in the list, or its line says its shocks
+  pub listed-in : {line : ℕ} {answer : Option Shocks} → line ≡ in_digits (shocks_for list code) → Says line answer
+      → result_of as_it_is (listed_at body o) ≡ ok_or answer (fault CodeNotListed 0)
+  listed-in {line} {answer} e says = by (code_not_listed edition code) refl
     where
       looked : line ≡ in_digits (shocks_for (list_of edition) code)
       looked = e ∙ ap (λ (l : List Entry). in_digits (shocks_for l code)) (sym lists)
 
-      by : (b : Bool) → code_not_listed edition code ≡ b → answer ≡ listed_of (listed_at body o)
-      by true t = says.nothing (looked ∙ past_end (list_of edition) code (no_line t)) ∙ sym (ap listed_of (absent t))
-      by false f = says.something _ (listed-sized edition code f) looked ∙ sym (ap listed_of (present f))
+      by : (b : Bool) → code_not_listed edition code ≡ b → result_of as_it_is (listed_at body o) ≡ ok_or answer (fault CodeNotListed 0)
+      by true t = rw (absent t, says.nothing (looked ∙ past_end (list_of edition) code (no_line t)))
+      by false f = rw (present f, says.something _ (listed-sized edition code f) looked)
 
 -- neither edition
 pub no-edition : (body : List ℕ) (o : ℕ) → (byte body o ≡ 1 → ⊥) → (byte body o ≡ 2 → ⊥) → listed_at body o ≡ refused UnknownEdition 0
@@ -91,18 +94,18 @@ no-edition body o first second = by (unknown_edition (byte body o)) refl
 
 -- ---- a line taken apart
 
-module _ {line : ℕ} {answer : ListedShocks} where
-  pub says_nothing : line ≡ 0 → answer ≡ listed_of (refused CodeNotListed 0) → Says line answer
+module _ {line : ℕ} where
+  pub says_nothing : line ≡ 0 → Says line None
   unfolding in_digits
-  says_nothing e told = record { nothing = λ _. told; something = λ s sizes f. absurd (omega (arith, e, f, sizes.0.0)) }
+  says_nothing e = record { nothing = λ _. refl; something = λ s sizes f. absurd (omega (arith, e, f, sizes.0.0)) }
 
-  pub says-something : 0 < line → answer ≡ Are (record { parallel = line / 1000000; short = line / 1000 % 1000; long = line % 1000 }) → Says line answer
+  pub says-something : 0 < line → Says line (Some (record { parallel = line / 1000000; short = line / 1000 % 1000; long = line % 1000 }))
   unfolding in_digits
-  says-something l told = record { nothing = λ e. absurd (omega (arith, e)); something = apart }
+  says-something l = record { nothing = λ e. absurd (omega (arith, e)); something = apart }
     where
-      apart : (s : Shocks) → Sizes s → line ≡ in_digits s → answer ≡ Are s
+      apart : (s : Shocks) → Sizes s → line ≡ in_digits s → Some (record { parallel = line / 1000000; short = line / 1000 % 1000; long = line % 1000 }) ≡ Some s
       apart s sizes f =
           let parallel : line / 1000000 ≡ s.parallel = omega (arith, f, sizes.1.1, sizes.2.1) in
           let short : line / 1000 % 1000 ≡ s.short = omega (arith, f, sizes.1.1, sizes.2.1) in
           let long : line % 1000 ≡ s.long = omega (arith, f, sizes.2.1) in
-          told ∙ (λ i. Are (record { parallel = parallel i; short = short i; long = long i }))
+          λ i. Some (record { parallel = parallel i; short = short i; long = long i })

@@ -4,12 +4,14 @@
 #![tactic(auto)]
 
 ghost use Rattle.std.specs.Prelude.{◌≡◌, ◌+◌, ◌≤◌, length};
-ghost use Rattle.paper.specs.Refusals.{refused};
+ghost use Rattle.paper.specs.Refusals.{result_of};
 ghost use Rattle.paper.specs.Published.{edition1, edition2, shocks_for};
 ghost use Rattle.paper.specs.Fields.{listed_at};
-ghost use Rattle.published.specs.Lines.{in_digits, listed_of, fault_in, Says};
+ghost use Rattle.fields.specs.Answers.{as_it_is};
+ghost use Rattle.published.specs.Lines.{in_digits, Says};
 
 use fields::bytes::{byte_at, three_at};
+use fields::record_fault;
 use paper::{Fault, Refusal, Shocks};
 
 // The three letters, a byte each.
@@ -115,56 +117,29 @@ fn edition_2(code: u32) -> u32
     }
 }
 
-#[derive(Clone, Copy)]
-pub enum ListedShocks {
-    Are(Shocks),
-    Bad(Fault),
-}
-
-impl ListedShocks {
-    pub fn fault(self) -> Fault
-        ensures { result ≡ fault_in self }
-    {
-        match self {
-            ListedShocks::Bad(fault) => fault,
-            ListedShocks::Are(_) => Fault {
-                cause: Refusal::UnknownKind,
-                place: 0,
-            },
-        }
-    }
-}
-
-// Both refusals are told of the record as a whole.
-fn refused(cause: Refusal) -> ListedShocks
-    ensures { result ≡ listed_of (refused cause 0) }
-{
-    ListedShocks::Bad(Fault { cause, place: 0 })
-}
-
-fn taken_apart(line: u32) -> ListedShocks
+fn taken_apart(line: u32) -> Option<Shocks>
     ensures { Says line result }
 {
     if line == 0 {
-        return refused(Refusal::CodeNotListed);
+        return None;
     }
-    ListedShocks::Are(Shocks {
+    Some(Shocks {
         parallel: line / 1_000_000,
         short: line / 1_000 % 1_000,
         long: line % 1_000,
     })
 }
 
-// An edition (1 byte) and a code (3), and the shocks that are listed.
-pub fn listed_at(body: &[u8], at: usize) -> ListedShocks
+// An edition (1 byte) and a code (3), and the shocks that are listed. Both refusals are told of the record as a whole.
+pub fn listed_at(body: &[u8], at: usize) -> Result<Shocks, Fault>
     requires { at + 4 ≤ length body.now }
-    ensures { result ≡ listed_of (listed_at body.now at) }
+    ensures { result ≡ result_of as_it_is (listed_at body.now at) }
 {
-    let edition = byte_at(body, at);
     let code = three_at(body, at + 1);
-    match edition {
-        1 => taken_apart(edition_1(code)),
-        2 => taken_apart(edition_2(code)),
-        _ => refused(Refusal::UnknownEdition),
-    }
+    let line = match byte_at(body, at) {
+        1 => edition_1(code),
+        2 => edition_2(code),
+        _ => return Err(record_fault(Refusal::UnknownEdition)),
+    };
+    taken_apart(line).ok_or(record_fault(Refusal::CodeNotListed))
 }

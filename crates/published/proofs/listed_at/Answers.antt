@@ -1,25 +1,37 @@
 -- `listed_at`: the list of the edition that the body names.
-use mathlib.Core.Path.{refl, sym, ap, ◌∙◌}
 use Prim.Native.Nat.{ℕ}
+use mathlib.Core.Path.{◌≡◌, refl, sym, ap, ◌∙◌}
+use Rattle.std.proofs.Common.{rules}
+use Rattle.std.specs.Prelude.{Err}
+use Rattle.paper.specs.declared.Refusal.TheVariants.{CodeNotListed}
+use Rattle.paper.specs.Refusals.{fault, result_of}
 use Rattle.paper.specs.Published.{edition1, edition2, list_of, shocks_for}
 use Rattle.paper.specs.TurnedDown.{unknown_edition}
-use Rattle.published.specs.Lines.{in_digits, listed_of}
-use Rattle.published.proofs.Lines.{listed_in, no-edition}
+use Rattle.paper.specs.Fields.{listed_at}
+use Rattle.std.specs.Option.{ok_or}
+use Rattle.fields.specs.Answers.{as_it_is}
+use Rattle.published.specs.Lines.{in_digits}
+use Rattle.published.proofs.Lines.{listed-in, no-edition}
 use Rattle.published.proofs.listed_at.Goals as goal
-
-pub returns-in-1 : goal.returns-in-1
-unfolding unknown_edition list_of
-returns-in-1 c =
-    listed_in _ _ 1 edition1 (sym c.byte_at-edition.ensures ∙ c.in-1.is) refl refl
-    (c.edition_1.ensures ∙ ap (λ (code : ℕ). in_digits (shocks_for edition1 code)) c.three_at-code.ensures) c.taken_apart.ensures
-
-pub returns-in-2 : goal.returns-in-2
-unfolding unknown_edition list_of
-returns-in-2 c =
-    listed_in _ _ 2 edition2 (sym c.byte_at-edition.ensures ∙ c.in-2.is) refl refl
-    (c.edition_2.ensures ∙ ap (λ (code : ℕ). in_digits (shocks_for edition2 code)) c.three_at-code.ensures) c.taken_apart-in-2.ensures
+use Rattle.published.proofs.listed_at.Goals.{in-1, in-2}
 
 pub returns-in_default : goal.returns-in_default
 returns-in_default c =
-    let read = c.byte_at-edition.ensures in
-    c.refused.ensures ∙ sym (ap listed_of (no-edition _ _ (λ e. c.in_default.in_default-own.rest.0.1 (read ∙ e)) (λ e. c.in_default.in_default-own.rest.1 (read ∙ e))))
+    let first : c.byte_at.result ≡ 1 → ⊥ = search rules in
+    let second : c.byte_at.result ≡ 2 → ⊥ = search rules in
+    let read = c.byte_at.ensures in
+    ap Err c.record_fault.ensures ∙ sym (ap (result_of as_it_is) (no-edition _ _ (λ e. first (read ∙ e)) (λ e. second (read ∙ e))))
+
+-- the line that was looked up
+looked : (c : goal.After-ok_or) → result_of as_it_is (listed_at c.args.body.now c.args.at) ≡ ok_or c.taken_apart.result (fault CodeNotListed 0)
+unfolding unknown_edition list_of
+looked c =
+    elim c.match-byte_at.branch [
+      in-1 w ↦ listed-in _ _ 1 edition1 (sym c.byte_at.ensures ∙ w.in-1.is) refl refl
+          (w.line-is ∙ w.edition_1-line.ensures ∙ ap (λ (code : ℕ). in_digits (shocks_for edition1 code)) c.three_at-code.ensures) c.taken_apart.ensures
+    | in-2 w ↦ listed-in _ _ 2 edition2 (sym c.byte_at.ensures ∙ w.in-2.is) refl refl
+          (w.line-is ∙ w.edition_2-line.ensures ∙ ap (λ (code : ℕ). in_digits (shocks_for edition2 code)) c.three_at-code.ensures) c.taken_apart.ensures
+    ]
+
+pub returns : goal.returns
+returns c = c.ok_or.ensures.value ∙ ap (ok_or c.taken_apart.result) c.record_fault-2.ensures ∙ sym (looked c)
