@@ -6,7 +6,7 @@ use mathlib.Core.Path.{◌≡◌, refl, sym, ap, ap₂, ◌∙◌}
 use native.Mathlib.Omega.{arith}
 use lib.IntN.{ℤ, pos, ◌+ℤ◌}
 use lib.ListN.{length, get_or}
-use Rattle.std.specs.Prelude.{if◌then◌else◌}
+use Rattle.std.specs.Prelude.{if◌then◌else◌, Ok, Err}
 use Rattle.laws.specs.Tests.{◌is◌}
 use Rattle.laws.specs.Sums.{sum}
 use Rattle.laws.specs.Lists.{tabulate}
@@ -22,21 +22,19 @@ use Rattle.paper.specs.Sound.{SoundFlows, Sound}
 use Rattle.paper.proofs.Checks.{Checks, Inside, known_of}
 use Rattle.paper.proofs.Magnitudes.{size-sided}
 use Rattle.arrays.specs.Slots.{plus, plus_ℤ, with_flows, with_sizes, with_add_ons, with_option_sizes, option_magnitude, room_for, only_if}
-use Rattle.posting.specs.declared.Taken.{Taken}
-use Rattle.posting.specs.declared.Taken.TheVariants.{Refused}
-use Rattle.posting.specs.Parts.{FlowParts, answer_of, Admitted, Entered, column}
+use Rattle.posting.specs.Parts.{FlowParts, Taken, answer_of, Admitted, Entered, column}
 use Rattle.posting.proofs.Loops.{row_at}
-use Rattle.posting.proofs.Limit.{room-ext, room-is, sums-are}
+use Rattle.posting.proofs.Limit.{room-ext, answer-is, passed, failed, sums-are}
 use Rattle.posting.proofs.Sides.{sided-nil}
 use Rattle.posting.specs.Answers.{taken_of, into, flows_fit, FlowsTaken, options_fit, OptionTaken}
 
 -- ---- by the answer b of 14's test: the record is taken, or refused
 
 module _ (r : Record) where
-  answer-is : (b : Bool) → answer_of b ≡ taken_of (unless (not b) OverLimit 0 r)
+  taken-is : (b : Bool) → answer_of b ≡ taken_of (unless (not b) OverLimit 0 r)
   unfolding unless
-  answer-is true = refl
-  answer-is false = refl
+  taken-is true = refl
+  taken-is false = refl
 
   part-is : {A : Type 0} (with' : Record → List A → List A) (part : List A) (b : Bool) → only_if b (with' r part) part ≡ into with' (unless (not b) OverLimit 0 r) part
   unfolding unless
@@ -45,28 +43,32 @@ module _ (r : Record) where
 
 -- ---- a body that its decoder refuses
 
-pub flows-refused : {read : Checked Record} (f : Fault) → read ≡ refused f.cause f.place → (section : List ℤ) (sizes : List ℕ) → FlowsTaken read section sizes (Refused f) section sizes
+pub flows-refused : {read : Checked Record} (f : Fault) → read ≡ refused f.cause f.place → (section : List ℤ) (sizes : List ℕ) → FlowsTaken read section sizes (Err f) section sizes
 unfolding flows_fit ◌>>=◌
 flows-refused f e section sizes = rw e (record { answered = refl; cells = refl; sums = refl })
 
-pub option-refused : {read : Checked Record} (f : Fault) → read ≡ refused f.cause f.place → (sizes : List ℕ) (add_ons : List ℤ) → OptionTaken read sizes add_ons (Refused f) sizes add_ons
+pub option-refused : {read : Checked Record} (f : Fault) → read ≡ refused f.cause f.place → (sizes : List ℕ) (add_ons : List ℤ) → OptionTaken read sizes add_ons (Err f) sizes add_ons
 unfolding options_fit ◌>>=◌
 option-refused f e sizes add_ons = rw e (record { answered = refl; sums = refl; values = refl })
 
 -- ---- an option
 
-pub option-taken : (r : Record) (b : Bool) {more sizes sizes' : List ℕ} {add_ons add_ons' : List ℤ} {answer : Bool} → length sizes ≡ shocked
-    → ((j : ℕ) → j < shocked → option_magnitude r j ≡ get_or more j 0) → Admitted more sizes answer sizes' → answer ≡ b
-    → add_ons' ≡ only_if b (with_add_ons r add_ons) add_ons → OptionTaken (accepted r) sizes add_ons (answer_of b) sizes' add_ons'
-unfolding options_fit ◌>>=◌ with_option_sizes
-option-taken r b {sizes = sizes} {add_ons = add_ons} long sized test t e =
-    let room : Bool = room_for (option_magnitude r) sizes shocked in
-    let same : b ≡ room = sym (room-is (option_magnitude r) shocked long sized test ∙ t) in
-    record {
-      answered = ap answer_of same ∙ answer-is r room;
-      sums = sums-are (option_magnitude r) shocked long sized test ∙ part-is r with_option_sizes sizes room;
-      values = e ∙ ap (λ (x : Bool). only_if x (with_add_ons r add_ons) add_ons) same ∙ part-is r with_add_ons add_ons room;
-    }
+module _ (r : Record) {more sizes sizes' : List ℕ} {add_ons add_ons' : List ℤ} {answer result : Taken} (long : length sizes ≡ shocked)
+    (sized : (j : ℕ) → j < shocked → option_magnitude r j ≡ get_or more j 0) (test : Admitted more sizes answer sizes') where
+  option-taken : (b : Bool) → room_for (option_magnitude r) sizes shocked ≡ b → answer ≡ result → add_ons' ≡ only_if b (with_add_ons r add_ons) add_ons
+      → OptionTaken (accepted r) sizes add_ons result sizes' add_ons'
+  unfolding options_fit ◌>>=◌ with_option_sizes
+  option-taken b same told e = let room : Bool = room_for (option_magnitude r) sizes shocked in record {
+    answered = sym told ∙ answer-is (option_magnitude r) shocked long sized test ∙ taken-is r room;
+    sums = sums-are (option_magnitude r) shocked long sized test ∙ part-is r with_option_sizes sizes room;
+    values = e ∙ ap (λ (x : Bool). only_if x (with_add_ons r add_ons) add_ons) (sym same) ∙ part-is r with_add_ons add_ons room;
+  }
+
+  pub option-done : {u : Unit {0}} → answer ≡ Ok u → result ≡ Ok u → add_ons' ≡ with_add_ons r add_ons → OptionTaken (accepted r) sizes add_ons result sizes' add_ons'
+  option-done t told e = option-taken true (passed _ answer (answer-is (option_magnitude r) shocked long sized test) t) (t ∙ sym told) e
+
+  pub option-not : {f : Fault} → answer ≡ Err f → result ≡ Err f → add_ons' ≡ add_ons → OptionTaken (accepted r) sizes add_ons result sizes' add_ons'
+  option-not t told e = option-taken false (failed _ answer (answer-is (option_magnitude r) shocked long sized test) t) (t ∙ sym told) e
 
 -- ---- flows that were entered are the record's where they agree with its flows and magnitudes
 
@@ -82,7 +84,7 @@ entered-taken r accepts amounts side more {section = section} {sizes = sizes} pa
     joined-ext ◌+ℤ◌ (pos 0) section _ _ (λ j l. flows-are j (omega (arith, parts.cells-long))) in
     let sums : plus sizes more ≡ with_sizes r sizes = joined-ext ◌+◌ 0 sizes _ _ (λ i l. sizes-are i (omega (arith, parts.sizes-long))) in
     rw accepts (record {
-      answered = h.answered ∙ ap answer_of same ∙ answer-is r room;
+      answered = h.answered ∙ ap answer_of same ∙ taken-is r room;
       cells = h.cells ∙ ap₂ (λ (b : Bool) (l : List ℤ). only_if b l section) same cells ∙ part-is r with_flows section room;
       sums = h.sums ∙ ap₂ (λ (b : Bool) (l : List ℕ). only_if b l sizes) same sums ∙ part-is r with_sizes sizes room;
     })

@@ -2,19 +2,24 @@
 use Prim.Native.Nat.{ℕ, ◌+◌, ◌≤◌, ◌<◌}
 use mathlib.Core.Bool.{Bool, true, false, not}
 use mathlib.Core.List.{List}
-use mathlib.Core.Path.{◌≡◌, sym, ap, ap₂, ◌∙◌}
+use mathlib.Core.Path.{◌≡◌, refl, sym, ap, ap₂, ◌∙◌}
 use native.Mathlib.Omega.{arith}
 use lib.IntN.{ℤ, pos, ◌+ℤ◌}
 use lib.ListN.{length, get_or, replicate, get_or-replicate}
 use borrow.Author.Tests.{lt-ltb, le-ltb, ltb-false, not-true}
+use Rattle.std.proofs.lemmas.List.{get_or_default}
+use Rattle.std.proofs.lemmas.Slice.Zip.{length-zip, get_or-zip}
+use Rattle.std.specs.Bool.{MatchBool}
+use Rattle.std.specs.List.{zip, AllWithin, HoldsAt}
+use Rattle.std.specs.Prelude.{Ok, Err}
 use Rattle.laws.specs.Tests.{◌below◌}
 use Rattle.laws.proofs.Joins.{joined-ext}
 use Rattle.laws.proofs.Tests.{all-at, all_of, all-not, all-ext}
+use Rattle.paper.specs.declared.Fault.{Fault}
 use Rattle.paper.specs.Scales.{billion}
 use Rattle.paper.specs.Flow.{scenarios, sided}
 use Rattle.arrays.specs.Slots.{plus, plus_ℤ, room_for, only_if}
-use Rattle.posting.specs.declared.Taken.{Taken}
-use Rattle.posting.specs.Parts.{answer_of, Admitted, Entered}
+use Rattle.posting.specs.Parts.{AtMost, trillion, Taken, answer_of, Admitted, Entered}
 
 module _ (sums : List ℕ) (n : ℕ) where
   pub room_of : (more : ℕ → ℕ) → ((j : ℕ) → j < n → get_or sums j 0 + more j ≤ billion) → room_for more sums n ≡ true
@@ -36,20 +41,53 @@ module _ (sums : List ℕ) (n : ℕ) where
   unfolding room_for
   room-ext f g h = all-ext _ _ 0 n (λ j _ l. ap (λ (x : ℕ). not (billion below get_or sums j 0 + x)) (h j (omega arith)))
 
+-- ---- the sums beside what is added, as pairs
+
+module _ (sums more : List ℕ) (long : length more ≡ length sums) where
+  pair-at : (k : ℕ) (d : ℕ × ℕ) → k < length (zip sums more) → get_or (zip sums more) k d ≡ (get_or sums k 0, get_or more k 0)
+  pair-at k d w =
+      let in-sums : k < length sums = omega (arith, length-zip sums more) in
+      let in-more : k < length more = omega arith in
+      get_or-zip sums more k d in-sums in-more ∙ ap₂ (λ (a b : ℕ). (a, b)) (get_or_default sums k d.0 0 in-sums) (get_or_default more k d.1 0 in-more)
+
+  -- a pair's sum fits
+  pub pair-small : AtMost billion sums → AtMost trillion more → (p : ℕ × ℕ) (k : ℕ) → k < length (zip sums more) → p ≡ get_or (zip sums more) k p
+      → p.0 + p.1 ≤ billion + trillion
+  pair-small sums-small more-small p k w e =
+      let same : p ≡ (get_or sums k 0, get_or more k 0) = e ∙ pair-at k p w in rw same (omega (arith, sums-small k, more-small k))
+
+  -- the test of every pair is 14's
+  pub room-by : (r : Bool) → MatchBool r (AllWithin (λ (p : ℕ × ℕ). p.0 + p.1 ≤ billion) (zip sums more) 0 (length (zip sums more)))
+      ((k : ℕ) × (k < length (zip sums more)) × HoldsAt (λ (p : ℕ × ℕ). billion < p.0 + p.1) (zip sums more) k)
+      → r ≡ room_for (λ j. get_or more j 0) sums (length sums)
+  room-by true h = sym (room_of sums (length sums) (λ j. get_or more j 0) (λ j l.
+      let inside : j < length (zip sums more) = omega (arith, length-zip sums more) in
+      rw (pair-at j (0, 0) inside) at (h j (0, 0) (omega arith) inside)))
+  room-by false h = sym (room-not sums (length sums) (λ j. get_or more j 0) h.0 (omega (arith, length-zip sums more, h.1)) (rw (pair-at h.0 (0, 0) h.1) at (h.2 (0, 0))))
+
 -- ---- a test and what it lets in
 
 abbrev room : List ℕ → List ℕ → Bool
 room more sums = room_for (λ j. get_or more j 0) sums (length sums)
 
-pub admitted : (more sums sums' : List ℕ) → room more sums ≡ true → sums' ≡ plus sums (λ j. get_or more j 0) → Admitted more sums true sums'
-admitted more sums sums' t e = record { answered = sym t; grown = e ∙ sym (rw t) }
+pub admitted : (more sums sums' : List ℕ) → room more sums ≡ true → sums' ≡ plus sums (λ j. get_or more j 0) → Admitted more sums (answer_of true) sums'
+admitted more sums sums' t e = record { answered = sym (rw t); grown = e ∙ sym (rw t) }
 
-pub not-admitted : (more sums : List ℕ) → room more sums ≡ false → Admitted more sums false sums
-not-admitted more sums t = record { answered = sym t; grown = sym (rw t) }
+pub not-admitted : (more sums : List ℕ) → room more sums ≡ false → Admitted more sums (answer_of false) sums
+not-admitted more sums t = record { answered = sym (rw t); grown = sym (rw t) }
+
+-- an answer tells how the test went
+pub passed : (b : Bool) (answer : Taken) {u : Unit {0}} → answer ≡ answer_of b → answer ≡ Ok u → b ≡ true
+passed true answer t e = refl
+passed false answer t e = cc
+
+pub failed : (b : Bool) (answer : Taken) {f : Fault} → answer ≡ answer_of b → answer ≡ Err f → b ≡ false
+failed true answer t e = cc
+failed false answer t e = refl
 
 -- ---- sums tested with `more`, which is the record's own magnitudes one by one
 
-module _ (own : ℕ → ℕ) (n : ℕ) {more sums sums' : List ℕ} {answer : Bool} (long : length sums ≡ n)
+module _ (own : ℕ → ℕ) (n : ℕ) {more sums sums' : List ℕ} {answer : Taken} (long : length sums ≡ n)
     (sized : (j : ℕ) → j < n → own j ≡ get_or more j 0) (test : Admitted more sums answer sums') where
   same-room : room_for own sums n ≡ room_for (λ j. get_or more j 0) sums (length sums)
   same-room = room-ext sums n own (λ j. get_or more j 0) sized ∙ ap (room_for (λ j. get_or more j 0) sums) (sym long)
@@ -57,19 +95,25 @@ module _ (own : ℕ → ℕ) (n : ℕ) {more sums sums' : List ℕ} {answer : Bo
   same-sums : plus sums (λ j. get_or more j 0) ≡ plus sums own
   same-sums = joined-ext ◌+◌ 0 sums (λ j. get_or more j 0) own (λ j l. sym (sized j (omega arith)))
 
-  pub room-is : room_for own sums n ≡ answer
-  room-is = same-room ∙ sym test.answered
+  pub answer-is : answer ≡ answer_of (room_for own sums n)
+  answer-is = test.answered ∙ ap answer_of (sym same-room)
 
   pub sums-are : sums' ≡ only_if (room_for own sums n) (plus sums own) sums
   sums-are = test.grown ∙ ap₂ (λ (b : Bool) (l : List ℕ). only_if b l sums) (sym same-room) same-sums
 
--- by the answer b: flows worked out beforehand, all of one side
-pub entered : (amounts : ℕ → ℕ) (side : ℕ) (own : ℕ → ℕ) (b : Bool) {more sizes sizes' : List ℕ} {section section' : List ℤ} {answer : Bool}
-    → length sizes ≡ scenarios → ((i : ℕ) → i < scenarios → own i ≡ get_or more i 0) → Admitted more sizes answer sizes' → answer ≡ b
-    → section' ≡ only_if b (plus_ℤ section (λ j. sided side (pos (amounts j)))) section → Entered amounts side own section sizes (answer_of b) section' sizes'
-entered amounts side own b {sizes = sizes} long sized test t e =
-    let room : room_for own sizes scenarios ≡ b = room-is own scenarios long sized test ∙ t in
-    record { answered = sym (ap answer_of room); cells = e ∙ sym (rw room); sums = sums-are own scenarios long sized test }
+-- flows worked out beforehand, all of one side: written after the test, or left where it fails
+module _ (amounts : ℕ → ℕ) (side : ℕ) (own : ℕ → ℕ) {more sizes sizes' : List ℕ} {section section' : List ℤ} {answer result : Taken}
+    (long : length sizes ≡ scenarios) (sized : (i : ℕ) → i < scenarios → own i ≡ get_or more i 0) (test : Admitted more sizes answer sizes') where
+  entered : (b : Bool) → room_for own sizes scenarios ≡ b → answer ≡ result → section' ≡ only_if b (plus_ℤ section (λ j. sided side (pos (amounts j)))) section
+      → Entered amounts side own section sizes result section' sizes'
+  entered b room same e = record { answered = sym same ∙ answer-is own scenarios long sized test; cells = e ∙ sym (rw room); sums = sums-are own scenarios long sized test }
+
+  pub entered-done : {u : Unit {0}} → answer ≡ Ok u → result ≡ Ok u → section' ≡ plus_ℤ section (λ j. sided side (pos (amounts j)))
+      → Entered amounts side own section sizes result section' sizes'
+  entered-done t r e = entered true (passed _ answer (answer-is own scenarios long sized test) t) (t ∙ sym r) e
+
+  pub entered-not : {f : Fault} → answer ≡ Err f → result ≡ Err f → section' ≡ section → Entered amounts side own section sizes result section' sizes'
+  entered-not t r e = entered false (failed _ answer (answer-is own scenarios long sized test) t) (t ∙ sym r) e
 
 -- flows and magnitudes that are the same number by number
 pub entered-ext : (side : ℕ) (amounts amounts' more more' : ℕ → ℕ) {section section' : List ℤ} {sizes sizes' : List ℕ} {answer : Taken}

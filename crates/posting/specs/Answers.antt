@@ -1,18 +1,16 @@
 -- What the function of a kind answers, and what it leaves in its currency's parts: a record that is refused, by its fields or by 14, changes nothing.
 use Rattle.std.specs.Prelude.{ℕ, not, List, ◌≡◌, ℤ}
 use Rattle.paper.specs.declared.Refusal.TheVariants.{OverLimit}
-use Rattle.paper.specs.Refusals.{Checked, accepted, refused, ◌>>=◌, unless}
+use Rattle.paper.specs.Refusals.{Checked, accepted, refused, ◌>>=◌, unless, result_of}
 use Rattle.paper.specs.Records.{Record}
 use Rattle.paper.specs.Flow.{scenarios, shocked, magnitude}
 use Rattle.arrays.specs.Lent.{Lent}
 use Rattle.arrays.specs.Slots.{with_flows, with_rates, with_sizes, with_add_ons, with_option_sizes, option_magnitude, room_for}
-use Rattle.posting.specs.declared.Taken.{Taken}
-use Rattle.posting.specs.declared.Taken.TheVariants.{Done, Refused}
+use Rattle.posting.specs.Parts.{Taken}
 
 -- the answer to what was read
 abbrev pub taken_of : Checked Record → Taken
-taken_of (accepted r) = Done
-taken_of (refused q place) = Refused (record { cause = q; place = place })
+taken_of read = result_of (λ _. tt) read
 
 -- what was read, taken into the parts that it touches; a refused record changes nothing
 abbrev pub into : {A : Type 0} → (Record → A → A) → Checked Record → A → A

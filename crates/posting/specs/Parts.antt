@@ -1,15 +1,15 @@
 -- A currency's parts of the arrays, and what is left in them. 14 is tested first: what is over the limit changes nothing.
-use Rattle.std.specs.Prelude.{ℕ, suc, ◌+◌, ◌*◌, ◌/◌, ◌%◌, ◌<◌, ◌≤◌, Bool, List, ◌≡◌, ℤ, pos, nat_abs, length, get_or, if◌then◌else◌}
+use Rattle.std.specs.Prelude.{ℕ, suc, ◌+◌, ◌*◌, ◌/◌, ◌%◌, ◌<◌, ◌≤◌, Bool, List, ◌≡◌, ℤ, pos, nat_abs, length, get_or, if◌then◌else◌, Result, Ok, Err}
 use Rattle.laws.specs.Tests.{◌is◌}
 use Rattle.paper.specs.declared.Refusal.TheVariants.{OverLimit}
+use Rattle.paper.specs.declared.Fault.{Fault}
+use Rattle.paper.specs.Refusals.{fault}
 use Rattle.paper.specs.Scales.{billion}
 use Rattle.paper.specs.Ladder.{buckets}
 use Rattle.paper.specs.Flow.{scenarios, sided}
 use Rattle.paper.specs.Ledger.{section_size}
 use Rattle.arrays.specs.Lent.{Lent}
 use Rattle.arrays.specs.Slots.{plus, plus_ℤ, room_for, only_if}
-use Rattle.posting.specs.declared.Taken.{Taken}
-use Rattle.posting.specs.declared.Taken.TheVariants.{Done, Refused}
 
 -- every number of the list is at most b; past its end stands 0
 abbrev pub AtMost : ℕ → List ℕ → Type 0
@@ -29,13 +29,17 @@ pub record FlowParts (section : List ℤ) (sizes : List ℕ) : Type 0 where
   pub cells-small : AtMostℤ billion section
   pub sizes-small : AtMost billion sizes
 
+-- one answer for every kind: the record is taken, or refused for a cause at a place
+abbrev pub Taken : Type 0
+Taken = Result (Unit {0}) Fault
+
 -- by 14 alone
 abbrev pub answer_of : Bool → Taken
-answer_of room = if room then Done else Refused (record { cause = OverLimit; place = 0 })
+answer_of room = if room then Ok tt else Err (fault OverLimit 0)
 
 -- sums with more added, if none of them passes the limit
-pub record Admitted (more sums : List ℕ) (answer : Bool) (sums' : List ℕ) : Type 0 where
-  pub answered : answer ≡ room_for (λ j. get_or more j 0) sums (length sums)
+pub record Admitted (more sums : List ℕ) (answer : Taken) (sums' : List ℕ) : Type 0 where
+  pub answered : answer ≡ answer_of (room_for (λ j. get_or more j 0) sums (length sums))
   pub grown : sums' ≡ only_if (room_for (λ j. get_or more j 0) sums (length sums)) (plus sums (λ j. get_or more j 0)) sums
 
 -- an amount in one bucket of every scenario, by the place in a section

@@ -6,9 +6,8 @@ ghost use Rattle.paper.specs.Flow.{scenarios};
 ghost use Rattle.posting.specs.Parts.{AtMost, FlowParts, RowParts, Enters, row_flow, row_sum, trillion};
 
 use crate::cells::{add_row, add_rows};
-use crate::room::admits;
-use crate::{Taken, over_limit};
-use paper::SCENARIOS;
+use crate::room::admit;
+use paper::{Fault, SCENARIOS};
 use scales::Thousands;
 
 // The sum of the row that each scenario has.
@@ -17,11 +16,8 @@ fn scenario_sums(sums: &[u64], which: &[usize], more: &mut [u64])
     requires by_index { (i : ℕ) → i < scenarios → get_or which.now i 0 < length sums.now }
     ensures { more.new ≡ tabulate (row_sum sums.now which.now) scenarios }
 {
-    let mut i: usize = 0;
-    while i < SCENARIOS {
-        let row = which[i];
-        more[i] = sums[row];
-        i += 1;
+    for i in 0..SCENARIOS {
+        more[i] = sums[which[i]];
     }
 }
 
@@ -33,18 +29,16 @@ pub fn enter_rows(
     sums: &[u64],
     section: &mut [i64],
     sizes: &mut [u64],
-) -> Taken
+) -> Result<(), Fault>
     requires row_parts { RowParts rows.now which.now sums.now }
     requires flow_parts { FlowParts section.old sizes.old }
     ensures { Enters (row_flow rows.now which.now) side (row_sum sums.now which.now) section sizes result }
 {
     let mut more = [0u64; SCENARIOS];
     scenario_sums(sums, which, &mut more);
-    if admits(sizes, &more) {
-        add_rows(section, side, rows, which);
-        return Taken::Done;
-    }
-    over_limit()
+    admit(sizes, &more)?;
+    add_rows(section, side, rows, which);
+    Ok(())
 }
 
 // The same nineteen flows in every scenario.
@@ -54,15 +48,13 @@ pub fn enter_row(
     size: Thousands,
     section: &mut [i64],
     sizes: &mut [u64],
-) -> Taken
+) -> Result<(), Fault>
     requires row_len { (length row.now ≡ buckets) × AtMost trillion row.now × (size.0 ≤ trillion) }
     requires flow_parts { FlowParts section.old sizes.old }
     ensures { Enters (λ j. get_or row.now (j % buckets) 0) side (λ i. size.0) section sizes result }
 {
     let more = [size.0; SCENARIOS];
-    if admits(sizes, &more) {
-        add_row(section, side, row);
-        return Taken::Done;
-    }
-    over_limit()
+    admit(sizes, &more)?;
+    add_row(section, side, row);
+    Ok(())
 }

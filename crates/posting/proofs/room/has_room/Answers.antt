@@ -1,29 +1,24 @@
--- The sums passed stay within the limit; the first that does not is enough.
-use mathlib.Core.Path.{sym}
-use native.Mathlib.Omega.{arith}
-use lib.ListN.{get_or}
-use borrow.Author.Count.{below_more}
-use borrow.Author.Rules.{rules}
-use Rattle.posting.proofs.Limit.{room_of, room-not}
+-- Every sum beside its addition: the test of the pairs is 14's.
+use Prim.Native.Nat.{ℕ, ◌+◌, ◌≤◌, ◌<◌}
+use Rattle.std.proofs.Common.{rules}
+use Rattle.std.proofs.lemmas.Iterator.{YieldsList-from_slice, YieldsList-from_zip, cases_from_all}
+use Rattle.std.proofs.lemmas.Iterator.Adapters.{serves_from_places}
+use Rattle.paper.specs.Scales.{billion}
+use Rattle.posting.proofs.Limit.{pair-small, room-by}
 use Rattle.posting.proofs.room.has_room.Goals as goal
 
-pub loop-i-init : goal.loop-i-init
-loop-i-init c = (search rules, λ j l. absurd (omega arith))
-
-pub overflow_add-sums : goal.overflow_add-sums
-overflow_add-sums c =
-    let i = c.loop-i.i in
-    omega (arith, c.requires.at_most i, c.requires.at_most_2 i)
-
-pub returns-then-sums-i-gt1000000000 : goal.returns-then-sums-i-gt1000000000
-returns-then-sums-i-gt1000000000 c =
-    let i = c.loop-i.i in
-    sym (room-not c.args.sums.now _ (λ j. get_or c.args.more.now j 0) i (search rules) c.if-sums-i-gt1000000000.true)
-
-pub loop-i-preserved : goal.loop-i-preserved
-loop-i-preserved c =
-    (search rules, below_more _ _ c.loop-i.invariant.1 c.if-sums-i-gt1000000000.false)
+pub all-requires-clause-callable : goal.all-requires-clause-callable
+all-requires-clause-callable c =
+    let sums = c.args.sums.now in
+    let more = c.args.more.now in
+    serves_from_places (YieldsList-from_zip (YieldsList-from_slice sums (search rules)) (YieldsList-from_slice more (search rules)))
+    (λ x q r. search rules) (λ x k l e. let small = pair-small sums more c.requires.more_len c.requires.at_most c.requires.at_most_2 _ k l e in search rules)
 
 pub returns : goal.returns
 returns c =
-    sym (room_of c.args.sums.now _ (λ j. get_or c.args.more.now j 0) (λ j l. c.loop-i.invariant.1 j (omega arith)))
+    let sums = c.args.sums.now in
+    let more = c.args.more.now in
+    room-by sums more c.requires.more_len _
+    (cases_from_all c.all.new.self _ _ (λ (p : ℕ × ℕ). p.0 + p.1 ≤ billion) (λ (p : ℕ × ℕ). billion < p.0 + p.1) c.all.ensures.ran
+    (YieldsList-from_zip (YieldsList-from_slice sums (search rules)) (YieldsList-from_slice more (search rules)))
+    (λ x q k. search rules) (λ x q k. search rules))
