@@ -8,8 +8,7 @@ ghost use Rattle.posting.specs.Parts.{FlowParts, Enters};
 ghost use Rattle.due.specs.Schedules.{start_of, scheduled, Regular, month_ends, month_seen};
 
 use ladder::bucket_of;
-use paper::BUCKETS;
-use posting::Taken;
+use paper::{BUCKETS, Fault};
 use posting::flows::enter_row;
 use scales::Thousands;
 
@@ -47,14 +46,7 @@ fn due_by(end: u32, start: u32, share: u32, count: u32) -> u32
     requires { (end ≤ 601) × (share ≤ 65536) }
     ensures { result ≡ min count ((end - start) * share / 65536) }
 {
-    if end < start {
-        return 0;
-    }
-    let periods = (end - start) * share / 65536;
-    if count < periods {
-        return count;
-    }
-    periods
+    count.min(end.saturating_sub(start) * share / 65536)
 }
 
 // So many coupons are due by the end of each bucket.
@@ -63,10 +55,8 @@ fn due_by_ends(start: u32, share: u32, count: u32, by: &mut [u32])
     ensures { by.new ≡ tabulate (λ k. min count ((get_or month_ends k 0 - start) * share / 65536)) buckets }
 {
     let ends = MONTH_ENDS;
-    let mut k: usize = 0;
-    while k < BUCKETS {
+    for k in 0..BUCKETS {
         by[k] = due_by(ends[k], start, share, count);
-        k += 1;
     }
 }
 
@@ -82,10 +72,8 @@ fn coupon_row(coupons: Schedule, row: &mut [u64])
     due_by_ends(start, share, coupons.count, &mut by);
     let each = coupons.coupon.0;
     row[0] = (by[0] as u64) * each;
-    let mut k: usize = 1;
-    while k < BUCKETS {
+    for k in 1..BUCKETS {
         row[k] = ((by[k] - by[k - 1]) as u64) * each;
-        k += 1;
     }
 }
 
@@ -97,7 +85,7 @@ pub fn slot_schedule(
     amount: Thousands,
     section: &mut [i64],
     sizes: &mut [u64],
-) -> Taken
+) -> Result<(), Fault>
     requires regular { Regular coupons × (amount.0 ≤ 2_000_000_000) }
     requires flow_parts { FlowParts section.old sizes.old }
     ensures { Enters (λ j. scheduled coupons (record { months = months; days = days }) amount.0 (j % buckets)) side (λ i. coupons.count * coupons.coupon.0 + amount.0) section sizes result }

@@ -69,12 +69,12 @@ overflow_mul-row c = record { fits = omega (arith, mul-le-mul (few (goal.at.over
 pub loop-k-init : goal.loop-k-init
 loop-k-init c =
     let row = c.args.row.now in
-    (search rules, search rules, search rules, filled_next 0 _ row 0 _ (filled_none 0 _ row) (ap (λ (n : ℕ). n * (coupons (goal.at.loop-k-init c).After-due_by_ends).coupon.0) (omega arith)) (search rules))
+    (search rules, filled_next 0 _ row 0 _ (filled_none 0 _ row) (ap (λ (n : ℕ). n * (coupons (goal.at.loop-k-init c).After-due_by_ends).coupon.0) (omega arith)) (search rules))
 
 pub overflow_sub-row-in-loop-k : goal.overflow_sub-row-in-loop-k
 overflow_sub-row-in-loop-k c =
     let at = c.loop-k in
-    rw (end_before (by (goal.at.overflow_sub-row-in-loop-k c).After-due_by_ends) at.k at.invariant.0) (in_order (goal.at.overflow_sub-row-in-loop-k c).After-due_by_ends at.k (omega arith))
+    rw (end_before (by (goal.at.overflow_sub-row-in-loop-k c).After-due_by_ends) at.k (omega arith)) (in_order (goal.at.overflow_sub-row-in-loop-k c).After-due_by_ends at.k (omega arith))
 
 pub overflow_mul-row-in-loop-k : goal.overflow_mul-row-in-loop-k
 overflow_mul-row-in-loop-k c =
@@ -85,10 +85,10 @@ overflow_mul-row-in-loop-k c =
 pub loop-k-preserved : goal.loop-k-preserved
 loop-k-preserved c =
     let at = c.loop-k in
-    let value = ap (λ (n : ℕ). (get_or (by (goal.at.loop-k-preserved c).After-due_by_ends) at.k 0 - n) * (coupons (goal.at.loop-k-preserved c).After-due_by_ends).coupon.0) (end_before (by (goal.at.loop-k-preserved c).After-due_by_ends) at.k at.invariant.0) in
-    (search rules, search rules, search rules, filled_next 0 _ at.row at.k _ at.invariant.3 value (search rules))
+    let value = ap (λ (n : ℕ). (get_or (by (goal.at.loop-k-preserved c).After-due_by_ends) at.k 0 - n) * (coupons (goal.at.loop-k-preserved c).After-due_by_ends).coupon.0) (end_before (by (goal.at.loop-k-preserved c).After-due_by_ends) at.k (omega arith)) in
+    (search rules, filled_next 0 _ at.row at.k _ at.invariant.1 value (search rules))
 
 pub returns : goal.returns
 returns c =
     let at = c.loop-k in
-    filled-all 0 _ at.row buckets at.invariant.2 (λ k l. at.invariant.3 k (omega arith) ∙ coupons-here (goal.at.returns c).After-due_by_ends k l)
+    filled-all 0 _ at.row buckets at.invariant.0 (λ k l. at.invariant.1 k (omega arith) ∙ coupons-here (goal.at.returns c).After-due_by_ends k l)

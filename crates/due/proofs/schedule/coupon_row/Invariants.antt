@@ -1,5 +1,5 @@
--- What the loop of `coupon_row` keeps, and why it ends.
-use Prim.Native.Nat.{ℕ, suc, ◌*◌, ◌-◌, ◌≤◌}
+-- What the loop of `coupon_row` keeps.
+use Prim.Native.Nat.{ℕ, suc, ◌*◌, ◌-◌}
 use mathlib.Core.List.{List, ◌∷◌}
 use mathlib.Core.Path.{◌≡◌}
 use lib.ListN.{length, get_or}
@@ -11,7 +11,4 @@ abbrev pub by_end : List ℕ → ℕ → ℕ
 by_end by k = get_or (0 ∷ by) k 0
 
 abbrev pub invariant-loop-k : goal.invariant-loop-k
-invariant-loop-k l = (1 ≤ l.k) × (l.k ≤ 19) × (length l.row ≡ 19) × Filled 0 l.k (λ j. (by_end l.by (suc j) - by_end l.by j) * l.each) l.row
-
-abbrev pub decreases-loop-k : goal.decreases-loop-k
-decreases-loop-k l = 19 - l.k
+invariant-loop-k l = (length l.row ≡ 19) × Filled 0 l.k (λ j. (by_end l.by (suc j) - by_end l.by j) * l.each) l.row

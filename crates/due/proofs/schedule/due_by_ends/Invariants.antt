@@ -1,5 +1,5 @@
--- What the loop of `due_by_ends` keeps, and why it ends.
-use Prim.Native.Nat.{◌-◌, ◌*◌, ◌/◌, ◌≤◌, min}
+-- What the loop of `due_by_ends` keeps.
+use Prim.Native.Nat.{◌-◌, ◌*◌, ◌/◌, min}
 use mathlib.Core.Path.{◌≡◌}
 use lib.ListN.{length, get_or}
 use Rattle.laws.proofs.Filling.{Filled}
@@ -8,7 +8,4 @@ use Rattle.due.proofs.schedule.due_by_ends.Given as goal
 
 abbrev pub invariant-loop-k : goal.invariant-loop-k
 invariant-loop-k l =
-    (l.k ≤ 19) × (length l.by ≡ 19) × Filled 0 l.k (λ j. min l.count ((get_or month_ends j 0 - l.start) * l.share / 65536)) l.by
-
-abbrev pub decreases-loop-k : goal.decreases-loop-k
-decreases-loop-k l = 19 - l.k
+    (length l.by ≡ 19) × Filled 0 l.k (λ j. min l.count ((get_or month_ends j 0 - l.start) * l.share / 65536)) l.by
