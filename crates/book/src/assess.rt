@@ -6,7 +6,6 @@ ghost use Rattle.paper.specs.TurnedDown.{bad_capital, room_too_small};
 ghost use Rattle.load.specs.Load.{of_records};
 ghost use Rattle.book.specs.Assessed.{Answers, Assesses, Truthful, turned_away};
 
-use arrays::cells::clear;
 use factor::table;
 use load::{Loaded, load};
 use paper::{CELLS, CHANGES, CURRENCIES, FIGURES, Fault, LONGEST_BOOK, Refusal, SCENARIOS};
@@ -26,7 +25,7 @@ fn assess_records(book: &[u8], tier1: Thousands, report: &mut [i64], ledger: &mu
     requires report_len { (length report.old ≡ figures currencies) × (length ledger.old ≡ cells currencies) }
     ensures { Answers (of_records book.now) tier1.0 report.old ledger.old result report.new ledger.new }
 {
-    clear(ledger);
+    ledger.fill(0);
     let mut rates = [0i32; CELLS];
     let mut addons = [0i64; CHANGES];
     let mut sizes = [0u64; SCENARIOS * CURRENCIES];
@@ -40,7 +39,7 @@ fn assess_records(book: &[u8], tier1: Thousands, report: &mut [i64], ledger: &mu
         &mut options,
     ) {
         Loaded::Refused(fault) => {
-            clear(ledger);
+            ledger.fill(0);
             Assessed::Refused(fault)
         }
         Loaded::Kept(curved) => {

@@ -12,7 +12,6 @@ ghost use Rattle.arrays.specs.Rooms.{cell_by, totals_by};
 ghost use Rattle.text.specs.Written.{Wrote};
 ghost use Rattle.detail.specs.Behind.{Lengths, currency_by, longest_currency};
 
-use arrays::cells::copy_rates;
 use change::fill_tolerances;
 use paper::{BUCKETS, KINDS, SCENARIOS, SECTION, SHOCKED};
 use text::lines::{put_headed_line, put_row};
@@ -37,7 +36,9 @@ fn put_rates(out: &mut [u8], at: usize, currency: u64, scenario: u64, rates: &[i
     ensures { Wrote (line 90 (pos currency ∷ pos scenario ∷ rates.now)) at out.old result out.new }
 {
     let mut row = [0i64; BUCKETS];
-    copy_rates(rates, &mut row);
+    for (k, rate) in rates.iter().enumerate() {
+        row[k] = i64::from(*rate);
+    }
     put_row(out, at, b'Z', currency, scenario, &row)
 }
 

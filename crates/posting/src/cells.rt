@@ -20,7 +20,7 @@ pub fn sided(side: u32, value: SignedThousands) -> SignedThousands
     if side == 1 {
         return value;
     }
-    SignedThousands(0 - value.0)
+    SignedThousands(-value.0)
 }
 
 pub fn sided_amount(side: u32, amount: Thousands) -> SignedThousands
@@ -45,27 +45,23 @@ pub fn post(section: &mut [i64], bucket: usize, amount: SignedThousands)
     requires amount_bound { nat_abs amount.0 ≤ trillion }
     ensures { section.new ≡ plus_ℤ section.old (column bucket amount.0) }
 {
-    let mut i: usize = 0;
-    while i < SCENARIOS {
+    for i in 0..SCENARIOS {
         let at = BUCKETS * i + (bucket - 1);
         add_into(section, at, amount);
-        i += 1;
     }
 }
 
 // Nineteen amounts, all of one side, as flows.
-fn sided_row(side: u32, row: &[u64], flows: &mut [i64])
-    requires row_len { (length row.now ≡ buckets) × (length flows.old ≡ buckets) }
+fn sided_row(side: u32, row: &[u64]) -> [i64; BUCKETS]
+    requires row_len { length row.now ≡ buckets }
     requires at_most { AtMost trillion row.now }
-    ensures { flows.new ≡ tabulate (λ k. sided side (pos (get_or row.now k 0))) buckets }
+    ensures { result ≡ tabulate (λ k. sided side (pos (get_or row.now k 0))) buckets }
 {
-    let mut k: usize = 0;
-    while k < BUCKETS {
-        let flow = sided_amount(side, Thousands(row[k]));
-        let cell = flow.0;
-        flows[k] = cell;
-        k += 1;
+    let mut flows = [0i64; BUCKETS];
+    for (k, amount) in row.iter().enumerate() {
+        flows[k] = sided_amount(side, Thousands(*amount)).0;
     }
+    flows
 }
 
 fn add_cells(cells: &mut [i64], flows: &[i64])
@@ -74,10 +70,8 @@ fn add_cells(cells: &mut [i64], flows: &[i64])
     requires fact_2 { AtMostℤ trillion flows.now }
     ensures { cells.new ≡ plus_ℤ cells.old (λ j. get_or flows.now j (pos 0)) }
 {
-    let mut j = 0;
-    while j < cells.len() {
-        add_into(cells, j, SignedThousands(flows[j]));
-        j += 1;
+    for (j, flow) in flows.iter().enumerate() {
+        add_into(cells, j, SignedThousands(*flow));
     }
 }
 
@@ -88,14 +82,11 @@ pub fn add_row(section: &mut [i64], side: u32, row: &[u64])
     requires at_most { AtMost trillion row.now }
     ensures { section.new ≡ plus_ℤ section.old (λ j. sided side (pos (get_or row.now (j % buckets) 0))) }
 {
-    let mut flows = [0i64; BUCKETS];
-    sided_row(side, row, &mut flows);
-    let mut i: usize = 0;
-    while i < SCENARIOS {
+    let flows = sided_row(side, row);
+    for i in 0..SCENARIOS {
         let from = BUCKETS * i;
         let to = from + BUCKETS;
         add_cells(&mut section[from..to], &flows);
-        i += 1;
     }
 }
 
@@ -107,15 +98,12 @@ pub fn add_rows(section: &mut [i64], side: u32, rows: &[u64], which: &[usize])
     requires by_index { (i : ℕ) → i < scenarios → buckets * get_or which.now i 0 + buckets ≤ length rows.now }
     ensures { section.new ≡ plus_ℤ section.old (λ j. sided side (pos (row_flow rows.now which.now j))) }
 {
-    let mut i: usize = 0;
-    while i < SCENARIOS {
+    for (i, row) in which.iter().enumerate() {
         let from = BUCKETS * i;
         let to = from + BUCKETS;
-        let first = BUCKETS * which[i];
+        let first = BUCKETS * *row;
         let last = first + BUCKETS;
-        let mut flows = [0i64; BUCKETS];
-        sided_row(side, &rows[first..last], &mut flows);
+        let flows = sided_row(side, &rows[first..last]);
         add_cells(&mut section[from..to], &flows);
-        i += 1;
     }
 }

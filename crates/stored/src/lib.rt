@@ -8,7 +8,6 @@ ghost use Rattle.paper.specs.Stored as Stored;
 ghost use Rattle.paper.specs.Stored.{stored_currencies, cannot_widen};
 ghost use Rattle.stored.specs.Stored.{Widens, AsFresh};
 
-use arrays::cells::{clear, copy};
 use paper::{CHANGES, FIGURES, Fault, Refusal, STORED_CHANGES, STORED_FIGURES};
 
 // The report was written; or it was not, for a cause at a place.
@@ -32,12 +31,9 @@ fn write_widened(stored: &[i64], report: &mut [i64])
     requires { (length stored.now ≡ figures stored_currencies) × (length report.old ≡ figures currencies) }
     ensures { report.new ≡ Stored.widened stored_currencies currencies stored.now }
 {
-    copy(&stored[0..STORED_CHANGES], &mut report[0..STORED_CHANGES]);
-    clear(&mut report[STORED_CHANGES..CHANGES]);
-    copy(
-        &stored[STORED_CHANGES..STORED_FIGURES],
-        &mut report[CHANGES..FIGURES],
-    );
+    report[0..STORED_CHANGES].copy_from_slice(&stored[0..STORED_CHANGES]);
+    report[STORED_CHANGES..CHANGES].fill(0);
+    report[CHANGES..FIGURES].copy_from_slice(&stored[STORED_CHANGES..STORED_FIGURES]);
 }
 
 // A list of another length than a stored report has and a room that is too small are turned down alike.

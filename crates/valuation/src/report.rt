@@ -9,7 +9,6 @@ ghost use Rattle.arrays.specs.Rooms.{listed};
 ghost use Rattle.verdict.specs.Figures.{Figures, most_of_a_sum};
 ghost use Rattle.valuation.specs.Closing.{closing};
 
-use arrays::cells::copy;
 use paper::{CHANGES, FIGURES, SHOCKED};
 use scales::Thousands;
 use verdict::measure::{Greatest, greatest_sum, scenario_sum};
@@ -55,7 +54,7 @@ pub fn write_report(
 {
     let worst = greatest_sum(changes, last);
     let tolerance = greatest_sum(tolerances, last).sum;
-    copy(changes, &mut report[0..CHANGES]);
+    report[0..CHANGES].copy_from_slice(changes);
     write_sums(changes, last, &mut report[CHANGES..CLOSING]);
     write_closing(worst, tolerance, tier1, &mut report[CLOSING..FIGURES]);
 }

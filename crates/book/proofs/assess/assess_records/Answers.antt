@@ -5,7 +5,7 @@ use Rattle.book.proofs.assess.assess_records.Goals as goal
 
 pub load-requires : goal.load-requires
 load-requires c =
-    nothing_yet _ c.args.ledger.now c.requires.report_len.1 c.clear.ensures
+    nothing_yet _ c.args.ledger.now c.requires.report_len.1 (c.fill.ensures.after (λ y e. e))
 
 pub fill_report-requires : goal.fill_report-requires
 fill_report-requires c =
@@ -18,7 +18,7 @@ fill_report-requires c =
 pub returns-in-Refused : goal.returns-in-Refused
 returns-in-Refused c =
     let load = c.load in
-    answers-refused _ _ _ _ c.requires.report_len.1 load.new.ledger _ _ (load.ensures.stopped _ c.in-Refused.is) (omega arith) c.clear-in-Refused.ensures
+    answers-refused _ _ _ _ c.requires.report_len.1 load.new.ledger _ _ (load.ensures.stopped _ c.in-Refused.is) (omega arith) (c.fill-in-Refused.ensures.after (λ y e. e))
 
 pub returns-in-Kept : goal.returns-in-Kept
 returns-in-Kept c =

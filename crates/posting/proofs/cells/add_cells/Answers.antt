@@ -20,12 +20,12 @@ read_back : (flows : List ℤ) (j : ℕ) → AtMostℤ trillion flows → to_z w
 read_back flows j small = to_z-of_z {w = w64} (sfits-abs (get_or flows j (pos 0)) (omega (arith, small j)))
 
 pub loop-j-init : goal.loop-j-init
-loop-j-init c = (search rules, search rules, joining-none +ℤ_idr _ _)
+loop-j-init c = joining-none +ℤ_idr _ _
 
 pub add_into-requires : goal.add_into-requires
 add_into-requires c =
     let at = c.loop-j in
-    let same = joining-rest +ℤ_idr at.invariant.2 at.j (search rules) (search rules) in record {
+    let same = joining-rest +ℤ_idr at.invariant at.j (search rules) (search rules) in record {
       at_in_bounds = search rules;
       sfits = rw (read_back c.args.flows.now at.j c.requires.fact_2)
           (sum_fits (get_or at.cells at.j (pos 0)) (get_or c.args.flows.now at.j (pos 0)) (rw same (c.requires.fact at.j)) (c.requires.fact_2 at.j));
@@ -34,7 +34,7 @@ add_into-requires c =
 pub loop-j-preserved : goal.loop-j-preserved
 loop-j-preserved c =
     let at = c.loop-j in
-    (search rules, search rules, rw c.add_into.ensures (joining-next +ℤ_idr at.invariant.2 (read_back c.args.flows.now at.j c.requires.fact_2) (search rules)))
+    rw c.add_into.ensures (joining-next +ℤ_idr at.invariant (read_back c.args.flows.now at.j c.requires.fact_2) (search rules))
 
 pub returns : goal.returns
-returns c = joining-done +ℤ_idr c.loop-j.invariant.2 (search rules)
+returns c = joining-done +ℤ_idr c.loop-j.invariant (search rules)

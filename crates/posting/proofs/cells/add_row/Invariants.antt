@@ -1,15 +1,11 @@
--- What the loop of `add_row` keeps, and why it ends.
-use Prim.Native.Nat.{◌*◌, ◌-◌, ◌%◌, ◌≤◌}
-use mathlib.Core.Path.{◌≡◌}
+-- What the loop of `add_row` keeps.
+use Prim.Native.Nat.{◌*◌, ◌%◌}
 use lib.IntN.{pos, ◌+ℤ◌}
-use lib.ListN.{length, get_or}
+use lib.ListN.{get_or}
 use Rattle.paper.specs.Flow.{sided}
 use Rattle.posting.proofs.Loops.{Joining}
 use Rattle.posting.proofs.cells.add_row.Given as goal
 
 abbrev pub invariant-loop-i : goal.invariant-loop-i
 invariant-loop-i l =
-    (l.i ≤ 7) × (length l.section ≡ 133) × Joining ◌+ℤ◌ (pos 0) (19 * l.i) (λ j. sided l.side (pos (get_or l.row (j % 19) 0))) l.initial.section l.section
-
-abbrev pub decreases-loop-i : goal.decreases-loop-i
-decreases-loop-i l = 7 - l.i
+    Joining ◌+ℤ◌ (pos 0) (19 * l.i) (λ j. sided l.side (pos (get_or l.row (j % 19) 0))) l.initial.section l.section

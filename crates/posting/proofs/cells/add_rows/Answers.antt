@@ -5,15 +5,13 @@ use mathlib.Core.Path.{◌≡◌, ap, ap₂, ◌∙◌}
 use native.Mathlib.Omega.{arith}
 use lib.IntN.{pos, +ℤ_idr}
 use lib.ListN.{length, get_or}
-use borrow.Author.Rules.{rules}
 use Rattle.laws.specs.Lists.{section}
 use Rattle.laws.proofs.Sections.{length-section, section-at, section-all}
 use Rattle.paper.specs.Flow.{sided}
 use Rattle.posting.specs.Parts.{row_flow, AtMost, trillion}
-use Rattle.posting.proofs.Loops.{joining-none, joining-long, joining-done}
+use Rattle.posting.proofs.Loops.{joining-none, joining-done}
 use Rattle.posting.proofs.Sides.{row_fits, row-added}
 use Rattle.posting.proofs.cells.add_rows.Goals as goal
-use Rattle.posting.proofs.cells.add_rows.Goals.{After-shared_slice_known-in-loop-i-1}
 
 -- the row that a scenario has
 module _ (rows which : List ℕ) (i : ℕ) where
@@ -35,50 +33,32 @@ module _ (rows which : List ℕ) (i : ℕ) where
       let bucket : k ≡ (19 * i + k) % 19 = omega arith in
       section-at first (first + 19 - first) rows k 0 (omega arith) ∙ ap₂ (λ (n j : ℕ). get_or rows (19 * get_or which n 0 + j) 0) scenario bucket
 
--- it stands within the rows
-within : (c : After-shared_slice_known-in-loop-i-1)
-    → first c.args.rows.now c.args.which.now c.loop-i.i + 19
-    ≤ length c.args.rows.now
-within c = c.requires.by_index c.loop-i.i (omega arith)
-
 pub loop-i-init : goal.loop-i-init
-loop-i-init c = (search rules, search rules, joining-none +ℤ_idr _ _)
+loop-i-init c = joining-none +ℤ_idr _ _
 
-pub overflow_mul-first : goal.overflow_mul-first
-overflow_mul-first c = omega (arith, within c)
-
-pub overflow_add-last : goal.overflow_add-last
-overflow_add-last c = omega (arith, within c)
-
-pub offset_bounds-rows-first : goal.offset_bounds-rows-first
-offset_bounds-rows-first c = omega (arith, within c)
-
-pub slice_bounds-sided_row-end : goal.slice_bounds-sided_row-end
-slice_bounds-sided_row-end c = let w = within c in search rules
-
-pub sided_row-requires : goal.sided_row-requires
-sided_row-requires c =
-    let i = c.loop-i.i in record { row_len = (own-long c.args.rows.now c.args.which.now i (within (goal.at.sided_row-requires c).After-shared_slice_known-in-loop-i-1), search rules); at_most = own-small c.args.rows.now c.args.which.now i c.requires.at_most }
+pub sided_row-flows-requires : goal.sided_row-flows-requires
+sided_row-flows-requires c =
+    let i = c.loop-i.i in record { row_len = own-long c.args.rows.now c.args.which.now i (c.requires.by_index i (omega arith)); at_most = own-small c.args.rows.now c.args.which.now i c.requires.at_most }
 
 pub add_cells-requires : goal.add_cells-requires
 add_cells-requires c =
     let at = c.loop-i in
     let row = own c.args.rows.now c.args.which.now at.i in
     let small = own-small c.args.rows.now c.args.which.now at.i c.requires.at_most in
-    let signed = c.sided_row.ensures in
+    let signed = c.sided_row-flows.ensures in
     let count : 19 * at.i + 19 - 19 * at.i ≡ 19 = omega arith in
-    let w = (row_fits c.args.side row signed at.i (omega (arith, c.requires.section_len.0)) at.invariant.2 c.requires.fact small) in record { flows_len = rw count w.0; fact = rw count w.1.0; fact_2 = w.1.1 }
+    let w = (row_fits c.args.side row signed at.i (omega (arith, c.requires.section_len.0)) at.invariant c.requires.fact small) in record { flows_len = rw count w.0; fact = rw count w.1.0; fact_2 = w.1.1 }
 
 pub loop-i-preserved : goal.loop-i-preserved
 loop-i-preserved c =
     let at = c.loop-i in
     let row = own c.args.rows.now c.args.which.now at.i in
-    let signed = c.sided_row.ensures in
+    let signed = c.sided_row-flows.ensures in
     let count : 19 * at.i + 19 - 19 * at.i ≡ 19 = omega arith in
-    let next = row-added c.args.side row signed at.i (omega (arith, c.requires.section_len.0)) at.invariant.2 (rw count at c.add_cells.ensures)
+    let next = row-added c.args.side row signed at.i (omega (arith, c.requires.section_len.0)) at.invariant (rw count at c.add_cells.ensures)
     (λ k l. ap (λ (n : ℕ). sided c.args.side (pos n)) (own-flow c.args.rows.now c.args.which.now at.i k l)) in
-    rw count (omega arith, joining-long +ℤ_idr next ∙ c.requires.section_len.0, next)
+    rw count next
 
 pub returns : goal.returns
 returns c =
-    joining-done +ℤ_idr c.loop-i.invariant.2 (omega (arith, c.requires.section_len.0))
+    joining-done +ℤ_idr c.loop-i.invariant (omega (arith, c.requires.section_len.0))

@@ -22,7 +22,7 @@ returns c =
     let worst = c.greatest_sum-worst in
     report-written c.args.report.now c.args.changes.now c.greatest_sum.result.sum.0 c.args.tier1.0 worst.result.sum.0 worst.result.scenario
     c.requires.tier1_bound.1 c.requires.figures.0.long
-    c.copy.ensures
+    c.copy_from_slice.ensures.after
     c.write_sums.ensures
     c.write_closing.ensures
     worst.ensures.sum_value worst.ensures.scenario_value
