@@ -25,10 +25,8 @@ pub fn sum_from(body: &[u8], from: usize) -> Thousands
     ensures { (result.0 ≡ sum_of (amounts_from body.now from)) × (result.0 ≤ 19_000_000_000) }
 {
     let mut total = Thousands(0);
-    let mut k: usize = 0;
-    while k < BUCKETS {
+    for k in 0..BUCKETS {
         total.0 += amount_of(body, from, k).0;
-        k += 1;
     }
     total
 }
@@ -38,11 +36,5 @@ pub fn row_sum(row: &[u64]) -> Thousands
     requires { (length row.now ≡ buckets) × AtMost trillion row.now }
     ensures { result.0 ≡ sum_of row.now }
 {
-    let mut total = Thousands(0);
-    let mut k: usize = 0;
-    while k < BUCKETS {
-        total.0 += row[k];
-        k += 1;
-    }
-    total
+    Thousands(row.iter().sum())
 }

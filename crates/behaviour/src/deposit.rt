@@ -9,7 +9,6 @@ ghost use Rattle.fields.specs.Answers.{amounts_from};
 ghost use Rattle.posting.specs.Parts.{AtMost};
 
 use crate::amounts::{amount_of, row_sum};
-use paper::BUCKETS;
 use scales::Thousands;
 
 pub fn core_row(body: &[u8], total: Thousands, row: &mut [u64])
@@ -17,10 +16,8 @@ pub fn core_row(body: &[u8], total: Thousands, row: &mut [u64])
     requires at_most { AtMost billion (amounts_from body.now 6) × (sum_of (amounts_from body.now 6) ≤ total.0) }
     ensures { row.new ≡ tabulate (deposit_flow total.0 (amounts_from body.now 6)) buckets }
 {
-    let mut k: usize = 0;
-    while k < BUCKETS {
-        row[k] = amount_of(body, 6, k).0;
-        k += 1;
+    for (k, cell) in row.iter_mut().enumerate() {
+        *cell = amount_of(body, 6, k).0;
     }
     let core = row_sum(row);
     row[0] += total.0 - core.0;

@@ -26,10 +26,7 @@ struct Step {
 fn paid(scheduled: Thousands, outstanding: Thousands) -> Thousands
     ensures { (result.0 ≡ paid scheduled.0 outstanding.0) × (result.0 ≤ outstanding.0) }
 {
-    if scheduled.0 < outstanding.0 {
-        return scheduled;
-    }
-    outstanding
+    Thousands(scheduled.0.min(outstanding.0))
 }
 
 // The rate is a year's: its part of the balance before payment for so many months, at most what payment leaves.
@@ -39,10 +36,7 @@ fn prepaid(rate: u64, width: u64, scheduled: Thousands, outstanding: Thousands) 
 {
     let part = Thousands(outstanding.0 * rate * width / 1200000);
     let left = Thousands(outstanding.0 - paid(scheduled, outstanding).0);
-    if part.0 < left.0 {
-        return part;
-    }
-    left
+    Thousands(part.0.min(left.0))
 }
 
 // Scheduled interest in the proportion of the balance to the scheduled one.
@@ -98,15 +92,13 @@ fn loan_column(
 {
     let scheduled = amount_of(body, 3, k);
     let charge = amount_of(body, 79, k);
-    let mut i: usize = 0;
-    while i < RATES {
+    for (i, rate) in rates.iter().enumerate() {
         let outstanding = Thousands(balances[i]);
-        let step = bucket_step(rates[i], width, scheduled, charge, outstanding, remaining);
+        let step = bucket_step(*rate, width, scheduled, charge, outstanding, remaining);
         let at = BUCKETS * i + k;
         rows[at] = step.flow.0;
         sums[i] += step.flow.0;
         balances[i] = step.left.0;
-        i += 1;
     }
 }
 
@@ -121,14 +113,10 @@ pub fn loan_rows(body: &[u8], share: u32, rows: &mut [u64], sums: &mut [u64])
     let widths = widths();
     let mut remaining = sum_from(body, 3);
     let mut balances = [remaining.0; RATES];
-    sums[0] = 0;
-    sums[1] = 0;
-    sums[2] = 0;
-    let mut k: usize = 0;
-    while k < BUCKETS {
-        let width = widths[k] as u64;
+    sums.fill(0);
+    for k in 0..BUCKETS {
+        let width = u64::from(widths[k]);
         loan_column(body, &rates, width, remaining, k, &mut balances, rows, sums);
         remaining.0 -= amount_of(body, 3, k).0;
-        k += 1;
     }
 }

@@ -15,11 +15,7 @@ fn rate_of(share: u32, multiplier: u32) -> u64
     requires { (share ≤ 10000) × (multiplier ≤ 12) }
     ensures { result ≡ min (share * multiplier) whole_rate }
 {
-    let rate = share * multiplier;
-    if rate < 100000 {
-        return rate as u64;
-    }
-    100000
+    u64::from(share * multiplier).min(100_000)
 }
 
 // The base scenario's, the lower and the higher one.

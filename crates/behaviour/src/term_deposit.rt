@@ -30,13 +30,11 @@ fn withdrawn_column(body: &[u8], rates: &[u64], k: usize, rows: &mut [u64], earl
     ensures { DepositReached rates.now body.now (λ _. k + 1) rows.new early.new }
 {
     let amount = amount_of(body, 3, k);
-    let mut i: usize = 0;
-    while i < RATES {
-        let part = moved(rates[i], amount);
+    for (i, rate) in rates.iter().enumerate() {
+        let part = moved(*rate, amount);
         let at = BUCKETS * i + k;
         rows[at] = amount.0 - part.0;
         early[i] += part.0;
-        i += 1;
     }
 }
 
@@ -47,12 +45,9 @@ fn raise_first(rows: &mut [u64], early: &[u64])
     requires at_most_2 { AtMost trillion early.now }
     ensures { rows.new ≡ joined ◌+◌ 0 rows.old (λ j. if j % buckets is 0 then get_or early.now (j / buckets) 0 else 0) }
 {
-    let mut i: usize = 0;
-    while i < RATES {
+    for (i, more) in early.iter().enumerate() {
         let at = BUCKETS * i;
-        let more = early[i];
-        rows[at] += more;
-        i += 1;
+        rows[at] += *more;
     }
 }
 
@@ -64,10 +59,8 @@ pub fn withdrawn_rows(body: &[u8], share: u32, rows: &mut [u64])
 {
     let rates = rates_of(share);
     let mut early = [0u64; RATES];
-    let mut k: usize = 0;
-    while k < BUCKETS {
+    for k in 0..BUCKETS {
         withdrawn_column(body, &rates, k, rows, &mut early);
-        k += 1;
     }
     raise_first(rows, &early);
 }

@@ -1,28 +1,15 @@
-use Prim.Native.Nat.{ℕ, ◌+◌}
-use mathlib.Core.Path.{◌≡◌, refl, sym, ap, ◌∙◌}
-use native.Mathlib.Nat.{le_refl}
+use Prim.Native.Nat.{◌<◌}
+use mathlib.Core.Path.{◌≡◌, ◌∙◌}
 use native.Mathlib.Omega.{arith}
-use lib.ListN.{get_or}
-use Rattle.laws.specs.Sums.{sum}
-use Rattle.laws.proofs.Sums.{sum_more, sum-most}
-use Rattle.laws.proofs.Totals.{sum-get_or}
-use Rattle.posting.specs.Parts.{trillion}
+use borrow.Author.Rules.{rules}
+use Rattle.std.specs.List as Added
+use Rattle.behaviour.proofs.AmountRange.{added_is, added-few}
 use Rattle.behaviour.proofs.amounts.row_sum.Goals as goal
 
-pub loop-k-init : goal.loop-k-init
-unfolding sum
-loop-k-init c = (omega arith, refl)
-
-pub overflow_add-total : goal.overflow_add-total
-overflow_add-total c =
-    let row = c.args.row.now in
-    record { fits = omega (arith, c.loop-k.invariant.1, sum-most (λ j. get_or row j 0) c.loop-k.k trillion (λ j _. c.requires.1 j), c.requires.1 c.loop-k.k) }
-
-pub loop-k-preserved : goal.loop-k-preserved
-loop-k-preserved c =
-    (omega arith, ap (λ (n : ℕ). n + get_or c.args.row.now c.loop-k.k 0) c.loop-k.invariant.1 ∙ sym (sum_more _ c.loop-k.k))
+pub sum-requires-clause-fits : goal.sum-requires-clause-fits
+sum-requires-clause-fits c =
+    let fits : Added.sum c.args.row.now < 18446744073709551616 = omega (arith, added-few c.args.row.now c.requires.0 c.requires.1) in
+    search rules
 
 pub returns : goal.returns
-returns c =
-    let last : c.loop-k.k ≡ 19 = omega (arith, c.loop-k.invariant.0) in
-    rw last at c.loop-k.invariant.1 ∙ sum-get_or c.args.row.now 19 (rw c.requires.0 (le_refl 19))
+returns c = let added : c.sum.result ≡ Added.sum c.args.row.now = search rules in added ∙ added_is c.args.row.now

@@ -1,5 +1,5 @@
--- What the loop of `sum_from` keeps, and why it ends.
-use Prim.Native.Nat.{◌*◌, ◌-◌, ◌≤◌}
+-- What the loop of `sum_from` keeps.
+use Prim.Native.Nat.{◌*◌, ◌≤◌}
 use mathlib.Core.Path.{◌≡◌}
 use lib.ListN.{get_or}
 use Rattle.laws.specs.Sums.{sum}
@@ -8,7 +8,4 @@ use Rattle.behaviour.proofs.amounts.sum_from.Given as goal
 
 abbrev pub invariant-loop-k : goal.invariant-loop-k
 invariant-loop-k l =
-    (l.k ≤ 19) × (l.total.0 ≡ sum (λ j. get_or (amounts_from l.body l.from) j 0) l.k) × (l.total.0 ≤ l.k * 1000000000)
-
-abbrev pub decreases-loop-k : goal.decreases-loop-k
-decreases-loop-k l = 19 - l.k
+    (l.total.0 ≡ sum (λ j. get_or (amounts_from l.body l.from) j 0) l.k) × (l.total.0 ≤ l.k * 1000000000)

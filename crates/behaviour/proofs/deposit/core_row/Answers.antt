@@ -13,7 +13,7 @@ use Rattle.behaviour.proofs.DepositRows.{core-row}
 use Rattle.behaviour.proofs.deposit.core_row.Goals as goal
 
 pub loop-k-init : goal.loop-k-init
-loop-k-init c = (search rules, search rules, filled_none 0 _ c.args.row.now)
+loop-k-init c = filled_none 0 _ c.args.row.now
 
 pub amount_of-requires : goal.amount_of-requires
 amount_of-requires c = record { from_in_bounds = (search rules, search rules); at_most = c.requires.at_most.0 }
@@ -21,7 +21,7 @@ amount_of-requires c = record { from_in_bounds = (search rules, search rules); a
 pub loop-k-preserved : goal.loop-k-preserved
 loop-k-preserved c =
     let at = c.loop-k in
-    (search rules, search rules, filled_next 0 _ at.row at.k _ at.invariant.2 c.amount_of.ensures.0 (search rules))
+    filled_next 0 _ at.row at.k _ at.invariant c.amount_of.ensures.0 (search rules)
 
 -- all core amounts are set down
 set-down : (k : ℕ) (body row : List ℕ) → k ≡ 19 → length row ≡ 19 → Filled 0 k (λ j. get_or (amounts_from body 6) j 0) row → row ≡ amounts_from body 6
@@ -30,21 +30,21 @@ set-down k body row last long core-in = filled_copy 0 (amounts_from body 6) row 
 pub row_sum-core-requires : goal.row_sum-core-requires
 row_sum-core-requires c =
     let at = c.loop-k in
-    (at.invariant.1, rw (set-down at.k c.args.body.now at.row (omega arith) at.invariant.1 at.invariant.2) (λ j. omega (arith, c.requires.at_most.0 j)))
+    (omega arith, rw (set-down at.k c.args.body.now at.row (omega arith) (omega arith) at.invariant) (λ j. omega (arith, c.requires.at_most.0 j)))
 
 pub overflow_sub-row : goal.overflow_sub-row
 overflow_sub-row c =
     let at = c.loop-k in
-    let summed = c.row_sum-core.ensures ∙ ap sum_of (set-down at.k c.args.body.now at.row (omega arith) at.invariant.1 at.invariant.2) in
+    let summed = c.row_sum-core.ensures ∙ ap sum_of (set-down at.k c.args.body.now at.row (omega arith) (omega arith) at.invariant) in
     omega (arith, summed, c.requires.at_most.1)
 
 pub overflow_add-row : goal.overflow_add-row
 overflow_add-row c =
-    record { fits = omega (arith, c.loop-k.invariant.2 0 (omega arith), c.requires.at_most.0 0, c.requires.body_len.1) }
+    record { fits = omega (arith, c.loop-k.invariant 0 (omega arith), c.requires.at_most.0 0, c.requires.body_len.1) }
 
 pub returns : goal.returns
 returns c =
     let at = c.loop-k in
     let last : at.k ≡ 19 = omega arith in
-    let summed = c.row_sum-core.ensures ∙ ap sum_of (set-down at.k c.args.body.now at.row last at.invariant.1 at.invariant.2) in
-    core-row c.args.total.0 (amounts_from c.args.body.now 6) at.row _ at.invariant.1 (rw last at at.invariant.2) (ap (λ n. c.args.total.0 - n) summed)
+    let summed = c.row_sum-core.ensures ∙ ap sum_of (set-down at.k c.args.body.now at.row last (omega arith) at.invariant) in
+    core-row c.args.total.0 (amounts_from c.args.body.now 6) at.row _ (omega arith) (rw last at at.invariant) (ap (λ n. c.args.total.0 - n) summed)

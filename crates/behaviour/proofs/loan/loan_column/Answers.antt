@@ -39,16 +39,16 @@ pub loop-i-init : goal.loop-i-init
 loop-i-init c =
     let reached = c.requires.loan_reached in
     let none : (r : ℕ) → r < 3 → c.args.k ≡ passed c.args.k 0 r = λ r o. sym (passed_none c.args.k r) in
-    (omega arith, record { flows = columns-to none reached.flows; added = kept-to none reached.added; left = kept-to none reached.left })
+    record { flows = columns-to none reached.flows; added = kept-to none reached.added; left = kept-to none reached.left }
 
 pub bounds-balances-i : goal.bounds-balances-i
-bounds-balances-i c = omega (arith, c.loop-i.invariant.1.left.long)
+bounds-balances-i c = omega (arith, c.loop-i.invariant.left.long)
 
 pub bucket_step-step-requires : goal.bucket_step-step-requires
 bucket_step-step-requires c =
     let s = c.requires in
     let b = before c.args.rates.now c.args.body.now c.args.k c.loop-i.i s.body_len.2 c.amount_of-scheduled.ensures.0 c.amount_of-charge.ensures.0
-    (kept_here c.loop-i.invariant.1.left c.loop-i-test.true) s.remaining_value.0 in
+    (kept_here c.loop-i.invariant.left (omega arith)) s.remaining_value.0 in
     let within = balance-within _ _ _ b in
     record {
       rate_le_whole_rate = (
@@ -62,7 +62,7 @@ bucket_step-step-requires c =
     }
 
 pub bounds-rows-at : goal.bounds-rows-at
-bounds-rows-at c = omega (arith, c.loop-i.invariant.1.flows.long)
+bounds-rows-at c = omega (arith, c.loop-i.invariant.flows.long)
 
 pub overflow_add-sums : goal.overflow_add-sums
 overflow_add-sums c =
@@ -71,34 +71,32 @@ overflow_add-sums c =
     let principals = amounts_from c.args.body.now 3 in
     let interests = amounts_from c.args.body.now 79 in
     let b = before c.args.rates.now c.args.body.now c.args.k c.loop-i.i s.body_len.2 c.amount_of-scheduled.ensures.0 c.amount_of-charge.ensures.0
-    (kept_here c.loop-i.invariant.1.left c.loop-i-test.true) s.remaining_value.0 in
+    (kept_here c.loop-i.invariant.left (omega arith)) s.remaining_value.0 in
     let flow = flow-is _ _ _ b _ c.bucket_step-step.ensures.flow_value in
-    let more = grown rate c.args.k principals interests (kept_here c.loop-i.invariant.1.added c.loop-i-test.true) flow in
+    let more = grown rate c.args.k principals interests (kept_here c.loop-i.invariant.added (omega arith)) flow in
     let all = loan-sum rate principals interests (suc c.args.k) (omega (arith, s.body_len.1)) (amounts-few c.args.body.now 79) in
     record { fits = omega (arith, more, all, s.remaining_value.1.all_small) }
 
 pub loop-i-preserved : goal.loop-i-preserved
 loop-i-preserved c =
     let s = c.requires in
-    let reached = c.loop-i.invariant.1 in
+    let reached = c.loop-i.invariant in
     let rate = get_or c.args.rates.now c.loop-i.i 0 in
     let principals = amounts_from c.args.body.now 3 in
     let interests = amounts_from c.args.body.now 79 in
     let b = before c.args.rates.now c.args.body.now c.args.k c.loop-i.i s.body_len.2 c.amount_of-scheduled.ensures.0 c.amount_of-charge.ensures.0
-    (kept_here c.loop-i.invariant.1.left c.loop-i-test.true) s.remaining_value.0 in
-    let flow = flow-is _ _ _ b _ c.bucket_step-step.ensures.flow_value in (
-      omega arith,
-      record {
-        flows = columns-next _ reached.flows c.loop-i-test.true s.body_len.1 flow;
-        added = kept_next _ reached.added c.loop-i-test.true
-            (grown rate c.args.k principals interests (kept_here reached.added c.loop-i-test.true) flow);
-        left = kept_next _ reached.left c.loop-i-test.true (left_is _ _ _ b _ c.bucket_step-step.ensures.left_value);
-      },
-    )
+    (kept_here c.loop-i.invariant.left (omega arith)) s.remaining_value.0 in
+    let flow = flow-is _ _ _ b _ c.bucket_step-step.ensures.flow_value in
+    record {
+      flows = columns-next _ reached.flows (omega arith) s.body_len.1 flow;
+      added = kept_next _ reached.added (omega arith)
+          (grown rate c.args.k principals interests (kept_here reached.added (omega arith)) flow);
+      left = kept_next _ reached.left (omega arith) (left_is _ _ _ b _ c.bucket_step-step.ensures.left_value);
+    }
 
 pub returns : goal.returns
 returns c =
-    let last : c.loop-i.i ≡ 3 = omega (arith, c.loop-i.invariant.0) in
-    let reached = rw last at c.loop-i.invariant.1 in
+    let last : c.loop-i.i ≡ 3 = omega arith in
+    let reached = rw last at c.loop-i.invariant in
     let all = passed-all c.args.k in
     record { flows = columns-to all reached.flows; added = kept-to all reached.added; left = kept-to all reached.left }

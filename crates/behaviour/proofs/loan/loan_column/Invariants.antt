@@ -1,12 +1,8 @@
--- What the loop of `loan_column` keeps, and why it ends.
-use Prim.Native.Nat.{◌-◌, ◌≤◌}
+-- What the loop of `loan_column` keeps.
 use Rattle.behaviour.specs.Columns.{LoanReached}
 use Rattle.behaviour.proofs.Columns.{passed}
 use Rattle.behaviour.proofs.loan.loan_column.Given as goal
 
 abbrev pub invariant-loop-i : goal.invariant-loop-i
 invariant-loop-i l =
-    (l.i ≤ 3) × LoanReached l.rates l.body (passed l.k l.i) l.balances l.rows l.sums
-
-abbrev pub decreases-loop-i : goal.decreases-loop-i
-decreases-loop-i l = 3 - l.i
+    LoanReached l.rates l.body (passed l.k l.i) l.balances l.rows l.sums

@@ -7,7 +7,6 @@ use native.Mathlib.Omega.{arith}
 use lib.ListN.{get_or}
 use borrow.Author.Rules.{rules}
 use Rattle.laws.specs.Sums.{sum}
-use Rattle.laws.proofs.Filling.{three-stored}
 use Rattle.laws.proofs.Lists.{tabulate-is, tabulate-ext}
 use Rattle.paper.specs.Behaviour.{whole_rate, behavioural_rate, outstanding_at, scheduled_at, loan_flow}
 use Rattle.paper.proofs.Deposits.{rate-at-most}
@@ -24,10 +23,9 @@ sum_from-remaining-requires c = record { from_in_bounds = search rules; at_most 
 pub loop-k-init : goal.loop-k-init
 unfolding sum outstanding_at scheduled_at
 loop-k-init c = (
-  omega arith,
   record {
     flows = columns-none c.requires.body_len.2;
-    added = rw (three-stored c.args.sums.now 0 0 0 c.requires.body_len.3) (kept-none 0 (λ r. refl));
+    added = rw (c.fill.ensures.after (λ y e. e), c.requires.body_len.3) (kept-none 0 (λ r. refl));
     left = kept-none c.sum_from-remaining.result.0 (λ r. sym c.sum_from-remaining.ensures.0);
   },
   c.sum_from-remaining.ensures.0,
@@ -39,13 +37,13 @@ loan_column-requires c =
     record {
       body_len = (
         c.requires.body_len.0,
-        c.loop-k-test.true,
-        ap (λ (w : List ℕ). get_or w c.loop-k.k 0) c.widths-widths.ensures,
+        omega arith,
+        c.from-width.ensures ∙ ap (λ (w : List ℕ). get_or w c.loop-k.k 0) c.widths-widths.ensures,
         row-long (behavioural_rate three_multipliers c.args.share) 3 rates,
         row_small (behavioural_rate three_multipliers c.args.share) 3 whole_rate rates (λ r _. rate-at-most three_multipliers c.args.share r),
       );
-      remaining_value = (c.loop-k.invariant.2, c.requires.sound_schedule);
-      loan_reached = c.loop-k.invariant.1;
+      remaining_value = (c.loop-k.invariant.1, c.requires.sound_schedule);
+      loan_reached = c.loop-k.invariant.0;
     }
 
 pub amount_of-requires : goal.amount_of-requires
@@ -55,21 +53,20 @@ amount_of-requires c = record {
 }
 
 pub overflow_sub-remaining : goal.overflow_sub-remaining
-overflow_sub-remaining c = (rest-is (amounts_from c.args.body.now 3) c.loop-k.k c.amount_of.ensures.0 c.loop-k.invariant.2).0
+overflow_sub-remaining c = (rest-is (amounts_from c.args.body.now 3) c.loop-k.k c.amount_of.ensures.0 c.loop-k.invariant.1).0
 
 pub loop-k-preserved : goal.loop-k-preserved
 loop-k-preserved c = (
-  omega (arith, c.loop-k-test.true),
   c.loan_column.ensures,
-  rw add-one (rest-is (amounts_from c.args.body.now 3) c.loop-k.k c.amount_of.ensures.0 c.loop-k.invariant.2).1,
+  rw add-one (rest-is (amounts_from c.args.body.now 3) c.loop-k.k c.amount_of.ensures.0 c.loop-k.invariant.1).1,
 )
 
 pub returns : goal.returns
 returns c =
     let body = c.args.body.now in
     let flow : ℕ → ℕ → ℕ = λ rate. loan_flow rate (amounts_from body 3) (amounts_from body 79) in
-    let last : c.loop-k.k ≡ 19 = omega (arith, c.loop-k.invariant.0) in
-    let reached = rw last at c.loop-k.invariant.1 in
+    let last : c.loop-k.k ≡ 19 = omega arith in
+    let reached = rw last at c.loop-k.invariant.0 in
     -- one of the three rates
     let rate-at : (r : ℕ) → r < 3 → get_or c.rates_of-rates.result r 0 ≡ behavioural_rate three_multipliers c.args.share r
     = row_at (behavioural_rate three_multipliers c.args.share) 3 c.rates_of-rates.ensures in

@@ -1,5 +1,4 @@
--- What the loop of `loan_rows` keeps, and why it ends.
-use Prim.Native.Nat.{◌-◌, ◌≤◌}
+-- What the loop of `loan_rows` keeps.
 use mathlib.Core.Path.{◌≡◌}
 use Rattle.paper.specs.Behaviour.{scheduled_at}
 use Rattle.fields.specs.Answers.{amounts_from}
@@ -8,7 +7,4 @@ use Rattle.behaviour.proofs.loan.loan_rows.Given as goal
 
 abbrev pub invariant-loop-k : goal.invariant-loop-k
 invariant-loop-k l =
-    (l.k ≤ 19) × LoanReached l.rates l.body (λ _. l.k) l.balances l.rows l.sums × (l.remaining.0 ≡ scheduled_at (amounts_from l.body 3) l.k)
-
-abbrev pub decreases-loop-k : goal.decreases-loop-k
-decreases-loop-k l = 19 - l.k
+    LoanReached l.rates l.body (λ _. l.k) l.balances l.rows l.sums × (l.remaining.0 ≡ scheduled_at (amounts_from l.body 3) l.k)

@@ -1,5 +1,5 @@
--- What the loop of `raise_first` keeps, and why it ends.
-use Prim.Native.Nat.{ℕ, ◌+◌, ◌*◌, ◌-◌, ◌/◌, ◌%◌, ◌≤◌}
+-- What the loop of `raise_first` keeps.
+use Prim.Native.Nat.{ℕ, ◌+◌, ◌*◌, ◌/◌, ◌%◌}
 use mathlib.Core.List.{List}
 use lib.ListN.{get_or}
 use Rattle.std.specs.Prelude.{if◌then◌else◌}
@@ -12,7 +12,4 @@ abbrev pub first : List ℕ → ℕ → ℕ
 first early j = if j % 19 is 0 then get_or early (j / 19) 0 else 0
 
 abbrev pub invariant-loop-i : goal.invariant-loop-i
-invariant-loop-i l = (l.i ≤ 3) × Joining ◌+◌ 0 (19 * l.i) (first l.early) l.initial.rows l.rows
-
-abbrev pub decreases-loop-i : goal.decreases-loop-i
-decreases-loop-i l = 3 - l.i
+invariant-loop-i l = Joining ◌+◌ 0 (19 * l.i) (first l.early) l.initial.rows l.rows

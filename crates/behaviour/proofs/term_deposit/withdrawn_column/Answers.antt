@@ -21,7 +21,7 @@ grown rate k amounts b p = ap₂ ◌+◌ b p ∙ sym (sum_more _ k) ∙ ap (sum 
 pub loop-i-init : goal.loop-i-init
 loop-i-init c =
     let none : (r : ℕ) → r < 3 → c.args.k ≡ passed c.args.k 0 r = λ r o. sym (passed_none c.args.k r) in
-    (omega arith, record { stays = columns-to none c.requires.deposit_reached.stays; moves = kept-to none c.requires.deposit_reached.moves })
+    record { stays = columns-to none c.requires.deposit_reached.stays; moves = kept-to none c.requires.deposit_reached.moves }
 
 pub moved-part-requires : goal.moved-part-requires
 moved-part-requires c = (c.requires.body_len.3 c.loop-i.i, c.amount_of-amount.ensures.1)
@@ -30,32 +30,30 @@ pub overflow_sub-rows : goal.overflow_sub-rows
 overflow_sub-rows c = c.moved-part.ensures.1
 
 pub bounds-rows-at : goal.bounds-rows-at
-bounds-rows-at c = omega (arith, c.loop-i.invariant.1.stays.long)
+bounds-rows-at c = omega (arith, c.loop-i.invariant.stays.long)
 
 pub overflow_add-early : goal.overflow_add-early
 overflow_add-early c =
     let rate = get_or c.args.rates.now c.loop-i.i 0 in
     let amounts = amounts_from c.args.body.now 3 in
     let moved_here = c.moved-part.ensures.0 ∙ ap (moved rate) c.amount_of-amount.ensures.0 in
-    let more = grown rate c.args.k amounts (kept_here c.loop-i.invariant.1.moves c.loop-i-test.true) moved_here in
+    let more = grown rate c.args.k amounts (kept_here c.loop-i.invariant.moves (omega arith)) moved_here in
     record { fits = omega (arith, more, moved-few rate amounts (suc c.args.k) (c.requires.body_len.3 c.loop-i.i) c.requires.at_most) }
 
 pub loop-i-preserved : goal.loop-i-preserved
 loop-i-preserved c =
-    let reached = c.loop-i.invariant.1 in
+    let reached = c.loop-i.invariant in
     let rate = get_or c.args.rates.now c.loop-i.i 0 in
     let amounts = amounts_from c.args.body.now 3 in
-    let moved_here = c.moved-part.ensures.0 ∙ ap (moved rate) c.amount_of-amount.ensures.0 in (
-      omega arith,
-      record {
-        stays = columns-next _ reached.stays c.loop-i-test.true c.requires.body_len.1 (ap₂ ◌-◌ c.amount_of-amount.ensures.0 moved_here);
-        moves = kept_next _ reached.moves c.loop-i-test.true (grown rate c.args.k amounts (kept_here reached.moves c.loop-i-test.true) moved_here);
-      },
-    )
+    let moved_here = c.moved-part.ensures.0 ∙ ap (moved rate) c.amount_of-amount.ensures.0 in
+    record {
+      stays = columns-next _ reached.stays (omega arith) c.requires.body_len.1 (ap₂ ◌-◌ c.amount_of-amount.ensures.0 moved_here);
+      moves = kept_next _ reached.moves (omega arith) (grown rate c.args.k amounts (kept_here reached.moves (omega arith)) moved_here);
+    }
 
 pub returns : goal.returns
 returns c =
-    let last : c.loop-i.i ≡ 3 = omega (arith, c.loop-i.invariant.0) in
-    let reached = rw last at c.loop-i.invariant.1 in
+    let last : c.loop-i.i ≡ 3 = omega arith in
+    let reached = rw last at c.loop-i.invariant in
     let all = passed-all c.args.k in
     record { stays = columns-to all reached.stays; moves = kept-to all reached.moves }

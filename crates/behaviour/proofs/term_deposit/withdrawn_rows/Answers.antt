@@ -22,7 +22,7 @@ rates-small share e = row_small (behavioural_rate three_multipliers share) 3 who
 
 pub loop-k-init : goal.loop-k-init
 unfolding sum
-loop-k-init c = (omega arith, record { stays = columns-none c.requires.body_len.2; moves = kept-none 0 (λ r. refl) })
+loop-k-init c = record { stays = columns-none c.requires.body_len.2; moves = kept-none 0 (λ r. refl) }
 
 pub withdrawn_column-requires : goal.withdrawn_column-requires
 withdrawn_column-requires c =
@@ -30,21 +30,21 @@ withdrawn_column-requires c =
     record {
       body_len = (
         c.requires.body_len.0,
-        c.loop-k-test.true,
+        omega arith,
         row-long (behavioural_rate three_multipliers c.args.share) 3 rates,
         rates-small c.args.share rates,
       );
       at_most = c.requires.at_most;
-      deposit_reached = c.loop-k.invariant.1;
+      deposit_reached = c.loop-k.invariant;
     }
 
 pub loop-k-preserved : goal.loop-k-preserved
-loop-k-preserved c = (omega (arith, c.loop-k-test.true), c.withdrawn_column.ensures)
+loop-k-preserved c = c.withdrawn_column.ensures
 
 pub raise_first-requires : goal.raise_first-requires
 raise_first-requires c =
-    let last : c.loop-k.k ≡ 19 = omega (arith, c.loop-k.invariant.0) in
-    let all = rw last at c.loop-k.invariant.1 in
+    let last : c.loop-k.k ≡ 19 = omega arith in
+    let all = rw last at c.loop-k.invariant in
     let small = c.requires.at_most in
     let amounts = amounts_from c.args.body.now 3 in
     record {
@@ -58,8 +58,8 @@ raise_first-requires c =
 pub returns : goal.returns
 unfolding joined
 returns c =
-    let last : c.loop-k.k ≡ 19 = omega (arith, c.loop-k.invariant.0) in
-    let all = rw last at c.loop-k.invariant.1 in
+    let last : c.loop-k.k ≡ 19 = omega arith in
+    let all = rw last at c.loop-k.invariant in
     let amounts = amounts_from c.args.body.now 3 in
     c.raise_first.ensures
     ∙ ap (tabulate _) all.stays.long
