@@ -19,7 +19,7 @@ ghost use Rattle.change.specs.Figures.{own_changes, own_tolerances, with_changes
 use ladder::Exponent;
 use paper::{BUCKETS, SECTION, SHOCKED};
 use scales::{Millionths, SignedThousands, TenThousandthYears, Thousands};
-use signed::{magnitude, rounded};
+use signed::rounded;
 
 // The sum of magnitudes of a scenario's net flows.
 fn net_size(cells: &[i64], scenario: usize) -> Thousands

@@ -31,28 +31,26 @@ impl Exponent {
 }
 
 // Of buckets 1 to 19, in ten-thousandths of a year.
-const MIDPOINTS: [u32; BUCKETS] = [
+static MIDPOINTS: [u32; BUCKETS] = [
     28, 417, 1667, 3750, 6250, 8750, 12500, 17500, 25000, 35000, 45000, 55000, 65000, 75000, 85000,
     95000, 125000, 175000, 250000,
 ];
 
-// For a loop over the buckets: taken once and lent, since a constant that is indexed by a variable is rebuilt at every use.
-pub fn midpoints() -> [u32; BUCKETS]
-    ensures { result ≡ midpoints }
+pub fn midpoints() -> &'static [u32; BUCKETS]
+    ensures { result.now ≡ midpoints }
 {
-    MIDPOINTS
+    &MIDPOINTS
 }
 
 // Of buckets 1 to 19, in months.
-const WIDTHS: [u32; BUCKETS] = [
+static WIDTHS: [u32; BUCKETS] = [
     0, 1, 2, 3, 3, 3, 6, 6, 12, 12, 12, 12, 12, 12, 12, 12, 60, 60, 120,
 ];
 
-// Lent as the midpoints are.
-pub fn widths() -> [u32; BUCKETS]
-    ensures { result ≡ widths }
+pub fn widths() -> &'static [u32; BUCKETS]
+    ensures { result.now ≡ widths }
 {
-    WIDTHS
+    &WIDTHS
 }
 
 // In the months up to a bucket's end, which belongs to it: that bucket, or the next once the days are past the end's.

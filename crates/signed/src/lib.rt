@@ -1,20 +1,9 @@
-// Signed whole numbers: magnitudes, and billionths rounded.
+// Billionths, rounded to whole numbers.
 #![tactic(auto)]
 
 ghost use Rattle.std.specs.Prelude.{◌≡◌, ◌*◌, ◌≤◌, nat_abs};
 ghost use Rattle.laws.specs.Nearest.{nearest_ℤ};
 ghost use Rattle.paper.specs.Scales.{billion};
-
-// The magnitude of the least i64 is no i64, so one is added on the other side of zero.
-pub fn magnitude(z: i64) -> u64
-    ensures { result ≡ nat_abs z }
-{
-    if z < 0 {
-        (-(z + 1)) as u64 + 1
-    } else {
-        z as u64
-    }
-}
 
 // Over a billion, halves away from zero.
 pub fn rounded(billionths: i64) -> i64

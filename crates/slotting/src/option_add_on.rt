@@ -18,7 +18,6 @@ use posting::room::admits;
 use posting::{Taken, over_limit};
 use record::option_add_on::{DecodedOption, decode_option};
 use scales::SignedThousands;
-use signed::magnitude;
 
 fn magnitudes(values: &[i64], sizes: &mut [u64])
     requires sizes_len { length sizes.old ≡ length values.now }
@@ -27,7 +26,7 @@ fn magnitudes(values: &[i64], sizes: &mut [u64])
 {
     let mut j = 0;
     while j < sizes.len() {
-        sizes[j] = magnitude(values[j]);
+        sizes[j] = values[j].unsigned_abs();
         j += 1;
     }
 }

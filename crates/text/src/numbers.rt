@@ -5,7 +5,6 @@ ghost use Rattle.paper.specs.Detail.{pointed};
 ghost use Rattle.text.specs.Written.{Wrote};
 
 use crate::bytes::put_byte;
-use signed::magnitude;
 
 // Twenty digits hold every u64. The digits before the last are those of a tenth of the number.
 pub fn put_decimal(out: &mut [u8], at: usize, n: u64) -> usize
@@ -31,7 +30,7 @@ pub fn put_number(out: &mut [u8], at: usize, z: i64) -> usize
     requires { at + 21 ≤ length out.old }
     ensures { Wrote (signed_decimal z) at out.old result out.new }
 {
-    let size = magnitude(z);
+    let size = z.unsigned_abs();
     if z < 0 {
         let digits = put_byte(out, at, b'-');
         return put_decimal(out, digits, size);
@@ -54,7 +53,7 @@ pub fn put_signed_pointed(out: &mut [u8], at: usize, z: i64) -> usize
     requires { at + 24 ≤ length out.old }
     ensures { Wrote (with_sign pointed z) at out.old result out.new }
 {
-    let size = magnitude(z);
+    let size = z.unsigned_abs();
     if z < 0 {
         let digits = put_byte(out, at, b'-');
         return put_pointed(out, digits, size);

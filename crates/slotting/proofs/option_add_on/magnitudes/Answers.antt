@@ -17,7 +17,7 @@ pub loop-j-preserved : goal.loop-j-preserved
 loop-j-preserved c =
     let at = c.loop-j in
     let z = get_or c.args.values.now at.j (pos 0) in
-    (search rules, search rules, filled_next 0 _ at.sizes at.j _ at.invariant.2 (c.magnitude.ensures ∙ ap nat_abs (back w64 z c.magnitude-arg-1.given)) (search rules))
+    (search rules, search rules, filled_next 0 _ at.sizes at.j _ at.invariant.2 (c.unsigned_abs.ensures.value ∙ ap nat_abs (back w64 z c.unsigned_abs-arg-1.given)) (search rules))
 
 pub returns : goal.returns
 returns c =
