@@ -64,7 +64,7 @@ fn value_of(
     let mut sum: i64 = 0;
     for k in 0..BUCKETS {
         let rate = Millionths(rates[start + k] as i64);
-        let exponent = Exponent::of(rate, TenThousandthYears::of(midpoints[k]));
+        let exponent = Exponent::of(rate, TenThousandthYears::from(midpoints[k]));
         sum += cells[start + k] * (factor::factor(table, exponent) as i64);
     }
     sum

@@ -10,7 +10,7 @@ ghost use Rattle.factor.specs.Table.{rows};
 use ladder::Exponent;
 
 // A row for each weight from 1 down to 10^-5; in it an entry for each digit. What the five smaller weights have for an entry follows a rule.
-const TABLE: [[u64; 10]; 6] = [
+static TABLE: [[u64; 10]; 6] = [
     [
         1000000000, 367879441, 135335283, 49787068, 18315639, 6737947, 2478752, 911882, 335463,
         123410,
@@ -37,11 +37,10 @@ const TABLE: [[u64; 10]; 6] = [
     ],
 ];
 
-// The table. A constant that is indexed by a variable is rebuilt at every use, so the entry function takes this once and lends it down.
-pub fn table() -> [[u64; 10]; 6]
-    ensures { result ≡ rows }
+pub fn table() -> &'static [[u64; 10]; 6]
+    ensures { result.now ≡ rows }
 {
-    TABLE
+    &TABLE
 }
 
 // Times a table entry, over a billion, halves up.
@@ -68,19 +67,18 @@ struct Begun {
 }
 
 // The first six digits of the exponent, highest first: their entries are in the table.
-fn after_first_digits(table: &[[u64; 10]; 6], start: u64, exponent: u64) -> Begun
-    requires table_value { table.now ≡ rows }
-    requires start_le_low_start { (start ≤ low_start) × (exponent < 10 ^ 11) }
+fn after_first_digits(start: u64, exponent: u64) -> Begun
+    requires { (start ≤ low_start) × (exponent < 10 ^ 11) }
     ensures { (result.product ≡ after_digits start exponent 6) × (result.rest ≡ exponent % 10 ^ 5) }
 {
     let mut product = start;
     let mut rest = exponent;
     let mut weight = 10_000_000_000;
-    for row in 0..6 {
+    for row in table() {
         let digit = (rest / weight) as usize;
-        product = scaled(product, table[row][digit]);
-        rest = rest % weight;
-        weight = weight / 10;
+        product = scaled(product, row[digit]);
+        rest %= weight;
+        weight /= 10;
     }
     Begun { product, rest }
 }
@@ -93,22 +91,19 @@ fn after_last_digits(start: u64, exponent: u64) -> u64
 {
     let mut product = start;
     let mut rest = exponent;
-    let mut weight = 10_000;
-    for row in 6usize..10 {
+    for weight in [10_000, 1_000, 100, 10] {
         product = lessened(product, rest / weight, weight);
-        rest = rest % weight;
-        weight = weight / 10;
+        rest %= weight;
     }
     lessened(product, (rest + 4) / 10, 10)
 }
 
 // The eleven digits of the exponent, highest first.
-fn after_digits(table: &[[u64; 10]; 6], start: u64, exponent: u64) -> u64
-    requires table_value { table.now ≡ rows }
-    requires start_le_low_start { (start ≤ low_start) × (exponent < 10 ^ 11) }
+fn after_digits(start: u64, exponent: u64) -> u64
+    requires { (start ≤ low_start) × (exponent < 10 ^ 11) }
     ensures { result ≡ after_digits start exponent 11 }
 {
-    let begun = after_first_digits(table, start, exponent);
+    let begun = after_first_digits(start, exponent);
     after_last_digits(begun.product, begun.rest)
 }
 
@@ -120,15 +115,14 @@ const LOW_START: u64 = 3_490_342_957;
 // Below zero Y counts up from -1.25.
 const LOW_END: i64 = 12_500_000_000;
 
-pub fn factor(table: &[[u64; 10]; 6], x: Exponent) -> u64
-    requires table_value { table.now ≡ rows }
-    requires in_range { InRange x.0 }
+pub fn factor(x: Exponent) -> u64
+    requires { InRange x.0 }
     ensures { (result ≡ factor x.0) × (result ≤ low_start) }
 {
     let units = x.units();
     if units < 0 {
-        after_digits(table, LOW_START, (LOW_END + units) as u64)
+        after_digits(LOW_START, (LOW_END + units) as u64)
     } else {
-        after_digits(table, BILLION, units as u64)
+        after_digits(BILLION, units as u64)
     }
 }

@@ -19,10 +19,10 @@ pub struct Thousands(pub u64);
 #[derive(Clone, Copy)]
 pub struct SignedThousands(pub i64);
 
-impl TenThousandthYears {
-    pub fn of(count: u32) -> Self
-        ensures { result.0 ≡ pos count }
-    {
-        Self(count as i64)
+impl From<u32> for TenThousandthYears {
+    ghost from_gives = { λ count years. years.0 ≡ pos count };
+
+    fn from(count: u32) -> Self {
+        Self(i64::from(count))
     }
 }

@@ -8,13 +8,10 @@ use Rattle.paper.proofs.FactorClose.{after-most}
 use Rattle.paper.proofs.FactorDigits.{in_parts}
 use Rattle.factor.proofs.after_digits.Goals as goal
 
-pub after_first_digits-begun-requires : goal.after_first_digits-begun-requires
-after_first_digits-begun-requires c = record { table_value = c.requires.table_value; start_le_low_start = c.requires.start_le_low_start }
-
 pub after_last_digits-requires : goal.after_last_digits-requires
 after_last_digits-requires c =
     let b = c.after_first_digits-begun.ensures in
-    (rw b.0 (le_trans (after-most _ _ _) c.requires.start_le_low_start.0), rw b.1 (mod-lt _ (lit< tt)))
+    (rw b.0 (le_trans (after-most _ _ _) c.requires.0), rw b.1 (mod-lt _ (lit< tt)))
 
 pub returns : goal.returns
 returns c =

@@ -1,10 +1,6 @@
--- What the loop of `after_first_digits` keeps, and why it ends.
-use Prim.Native.Nat.{◌-◌, ◌≤◌}
+-- What the loop of `after_first_digits` keeps.
 use Rattle.factor.proofs.Digits.{Reading}
 use Rattle.factor.proofs.after_first_digits.Given as goal
 
 abbrev pub invariant-loop-row : goal.invariant-loop-row
-invariant-loop-row l = (l.row ≤ 6) × Reading l.start l.exponent l.product l.rest l.weight l.row
-
-abbrev pub decreases-loop-row : goal.decreases-loop-row
-decreases-loop-row l = 6 - l.row
+invariant-loop-row l = Reading l.start l.exponent l.product l.rest l.weight l.row-index

@@ -17,7 +17,7 @@ use Rattle.factor.proofs.factor.Goals.{After-units-units, Else-units-lt0, Then-u
 
 -- X as it was read
 reach : (c : After-units-units) → InRange c.units-units.result
-reach c = rw c.units-units.ensures c.requires.in_range
+reach c = rw c.units-units.ensures c.requires
 
 same : (c : After-units-units) → to_z w64 (of_z w64 c.units-units.result) ≡ c.units-units.result
 same c = back w64 c.units-units.result c.units-units.type_inv
@@ -41,7 +41,7 @@ pub overflow_cast-units : goal.overflow_cast-units
 overflow_cast-units c = rw (below c) (tt, record { fits = omega arith })
 
 pub after_digits-requires : goal.after_digits-requires
-after_digits-requires c = record { table_value = c.requires.table_value; start_le_low_start = (omega arith, rw (below c) (omega arith)) }
+after_digits-requires c = (omega arith, rw (below c) (omega arith))
 
 -- ---- from zero on
 
@@ -58,7 +58,7 @@ pub overflow_cast-units-else-units-lt0 : goal.overflow_cast-units-else-units-lt0
 overflow_cast-units-else-units-lt0 c = rw (above c) (tt, record { fits = omega (arith, most c) })
 
 pub after_digits-requires-else-units-lt0 : goal.after_digits-requires-else-units-lt0
-after_digits-requires-else-units-lt0 c = record { table_value = c.requires.table_value; start_le_low_start = (omega arith, rw (above c) (most c)) }
+after_digits-requires-else-units-lt0 c = (omega arith, rw (above c) (most c))
 
 -- ---- the answers
 
