@@ -1,14 +1,14 @@
 // Curves and shocks (01, "Curves and shocks"; SRP31.90 to 31.93). Rates are millionths.
 #![tactic(auto)]
 
-ghost use Rattle.std.specs.Prelude.{◌≡◌, ◌<◌, ◌≤◌, pos, nat_abs, ◌*ℤ◌, length, get_or};
+ghost use Rattle.std.specs.Prelude.{◌≡◌, ◌<◌, ◌≤◌, pos, nat_abs, ◌*ℤ◌, length, get_or, MatchOption};
 ghost use Rattle.laws.specs.Tests.{first};
 ghost use Rattle.laws.specs.Lists.{tabulate};
 ghost use Rattle.paper.specs.Scales.{billion};
 ghost use Rattle.paper.specs.Ladder.{buckets};
 ghost use Rattle.paper.specs.Ledger.{section_size};
 ghost use Rattle.paper.specs.Curve.{rate_changes, shocked_rate};
-ghost use Rattle.paper.specs.TurnedDown.{bad_shocked};
+ghost use Rattle.paper.specs.TurnedDown.{bad_rate, bad_shocked};
 ghost use Rattle.paper.specs.Sound.{Ranged, Listed};
 ghost use Rattle.curve.specs.Shocked.{curve_of, Sized, twisted, short_shares, shocked_section};
 
@@ -17,16 +17,16 @@ use scales::Millionths;
 use signed::rounded;
 
 // s, in billionths, of each bucket.
-const SHORT_SHARES: [u32; BUCKETS] = [
+static SHORT_SHARES: [u32; BUCKETS] = [
     999300245, 989629152, 959181464, 910510361, 855345327, 803522574, 731615629, 645648526,
     535261429, 416862020, 324652467, 252839596, 196911675, 153354967, 119432968, 93014489,
     43936934, 12588142, 1930454,
 ];
 
-fn short_shares() -> [u32; BUCKETS]
-    ensures { result ≡ short_shares }
+fn short_shares() -> &'static [u32; BUCKETS]
+    ensures { result.now ≡ short_shares }
 {
-    SHORT_SHARES
+    &SHORT_SHARES
 }
 
 // So much of a shock, where its share is so many billionths.
@@ -69,39 +69,50 @@ fn change(shocks: Shocks, share: u32, scenario: usize) -> Millionths
     }
 }
 
-// The rate of a scenario in bucket k + 1: the base rate and the change.
-fn shocked(
-    rates: &[i64],
-    shocks: Shocks,
-    shares: &[u32; BUCKETS],
-    scenario: usize,
-    k: usize,
-) -> Millionths
-    requires listed { Listed Ranged buckets rates.now }
-    requires sized { Sized shocks }
-    requires shares_value { (shares.now ≡ short_shares) × (k < buckets) }
-    ensures result_value { result.0 ≡ shocked_rate (curve_of rates.now shocks) scenario k }
-    ensures result_bound { nat_abs result.0 ≤ 550_000 }
+fn outside(rate: Millionths) -> bool
+    ensures { result ≡ bad_rate rate.0 }
 {
-    let base = Millionths(rates[k]);
-    let moved = change(shocks, shares[k], scenario);
-    Millionths(base.0 + moved.0)
+    rate.0 < -50_000 || 300_000 < rate.0
 }
 
-// The nineteen rates of one scenario, in 32 bits each, which hold every shocked rate: half of what 64 would have to be cleared.
-pub fn fill_scenario(rates: &[i64], shocks: Shocks, scenario: usize, part: &mut [i32])
-    requires listed { Listed Ranged buckets rates.now }
-    requires sized { Sized shocks }
-    requires part_len { length part.old ≡ buckets }
-    ensures { part.new ≡ tabulate (shocked_rate (curve_of rates.now shocks) scenario) buckets }
-{
-    let shares = short_shares();
-    let mut k = 0;
-    while k < BUCKETS {
-        let rate = shocked(rates, shocks, &shares, scenario, k);
-        let cell = rate.0 as i32;
-        part[k] = cell;
-        k += 1;
+// Nineteen base rates in range, and three shocks that are not above their limit.
+#[derive(Clone, Copy)]
+pub struct Drawn<'a> {
+    pub rates: &'a [i64],
+    pub shocks: Shocks,
+    pub ghost listed: { Listed Ranged buckets rates.now },
+    pub ghost sized: { Sized shocks },
+}
+
+impl Drawn<'_> {
+    // The rate of a scenario in bucket k + 1: the base rate and the change.
+    fn rate(&self, scenario: usize, k: usize) -> Millionths
+        requires { k < buckets }
+        ensures result_value { result.0 ≡ shocked_rate (curve_of self.now.rates.now self.now.shocks) scenario k }
+        ensures result_bound { nat_abs result.0 ≤ 550_000 }
+    {
+        let base = Millionths(self.rates[k]);
+        let moved = change(self.shocks, short_shares()[k], scenario);
+        Millionths(base.0 + moved.0)
+    }
+
+    // Some scenario's rate in bucket k + 1 is out of range.
+    fn out_of_range(&self, k: usize) -> bool
+        requires { k < buckets }
+        ensures { result ≡ bad_shocked (curve_of self.now.rates.now self.now.shocks) k }
+    {
+        (1..SCENARIOS).any(|scenario| outside(self.rate(scenario, k)))
+    }
+
+    // The nineteen rates of one scenario, in 32 bits each, which hold every shocked rate: half of what 64 would have to be cleared.
+    pub fn fill_scenario(&self, scenario: usize, part: &mut [i32])
+        requires { length part.old ≡ buckets }
+        ensures { part.new ≡ tabulate (shocked_rate (curve_of self.now.rates.now self.now.shocks) scenario) buckets }
+    {
+        for (k, cell) in part.iter_mut().enumerate() {
+            let rate = self.rate(scenario, k);
+            *cell = rate.0 as i32;
+        }
     }
 }
 
@@ -112,46 +123,20 @@ pub fn fill_section(rates: &[i64], shocks: Shocks, section: &mut [i32])
     requires section_len { length section.old ≡ section_size }
     ensures { section.new ≡ shocked_section (curve_of rates.now shocks) }
 {
-    let mut scenario = 0;
-    while scenario < SCENARIOS {
+    let curve = Drawn { rates, shocks };
+    for scenario in 0..SCENARIOS {
         let start = BUCKETS * scenario;
         let end = start + BUCKETS;
-        fill_scenario(rates, shocks, scenario, &mut section[start..end]);
-        scenario += 1;
+        curve.fill_scenario(scenario, &mut section[start..end]);
     }
 }
 
-// Some scenario's rate in bucket k + 1 is out of range.
-fn out_of_range(rates: &[i64], shocks: Shocks, shares: &[u32; BUCKETS], k: usize) -> bool
+// The first bucket, from 0, in which some scenario's rate is out of range.
+pub fn first_out_of_range(rates: &[i64], shocks: Shocks) -> Option<usize>
     requires listed { Listed Ranged buckets rates.now }
     requires sized { Sized shocks }
-    requires shares_value { (shares.now ≡ short_shares) × (k < buckets) }
-    ensures { result ≡ bad_shocked (curve_of rates.now shocks) k }
+    ensures { let bucket = first (bad_shocked (curve_of rates.now shocks)) 0 buckets in MatchOption result (bucket ≡ buckets) (λ k. (bucket ≡ k) × (k < buckets)) }
 {
-    let mut scenario = 1;
-    while scenario < SCENARIOS {
-        let rate = shocked(rates, shocks, shares, scenario, k);
-        if rate.0 < -50_000 || 300_000 < rate.0 {
-            return true;
-        }
-        scenario += 1;
-    }
-    false
-}
-
-// The first bucket, from 0, in which some scenario's rate is out of range; BUCKETS where there is none.
-pub fn first_out_of_range(rates: &[i64], shocks: Shocks) -> usize
-    requires listed { Listed Ranged buckets rates.now }
-    requires sized { Sized shocks }
-    ensures { result ≡ first (bad_shocked (curve_of rates.now shocks)) 0 buckets }
-{
-    let shares = short_shares();
-    let mut k = 0;
-    while k < BUCKETS {
-        if out_of_range(rates, shocks, &shares, k) {
-            return k;
-        }
-        k += 1;
-    }
-    BUCKETS
+    let curve = Drawn { rates, shocks };
+    (0..BUCKETS).find(|k| curve.out_of_range(*k))
 }

@@ -1,26 +1,31 @@
--- `first_out_of_range` meets its contract: no bucket so far has a bad rate.
-use Prim.Native.Nat.{zero-le}
-use mathlib.Core.Path.{sym, ◌∙◌}
+-- `first_out_of_range` meets its contract: the buckets are gone through from the first.
+use Prim.Native.Nat.{ℕ, zero-le, ◌≤◌, ◌<◌}
+use mathlib.Core.Bool.{Bool, true, false}
+use mathlib.Core.Path.{◌≡◌, ◌∙◌}
 use native.Mathlib.Omega.{arith}
-use borrow.Author.Count.{below_more}
+use Rattle.std.proofs.Common.{zero-add}
+use borrow.Author.Rules.{rules}
+use borrow.Author.Tests.{tests}
+use Rattle.std.specs.Prelude.{Option, Some, None, MatchOption}
+use Rattle.std.proofs.lemmas.Iterator.{first_from_Range}
+use Rattle.laws.specs.Tests.{first}
 use Rattle.laws.proofs.Tests.{first-is, none_first}
-use Rattle.paper.specs.Ladder.{buckets}
+use Rattle.paper.specs.TurnedDown.{bad_shocked}
+use Rattle.curve.specs.Shocked.{curve_of}
 use Rattle.curve.proofs.first_out_of_range.Goals as goal
 
-pub loop-k-init : goal.loop-k-init
-loop-k-init c = (omega arith, λ j h. absurd (omega arith))
-
-pub out_of_range-requires : goal.out_of_range-requires
-out_of_range-requires c =
-    record { listed = c.requires.listed; sized = c.requires.sized; shares_value = (c.short_shares-shares.ensures, c.loop-k-test.true) }
-
-pub returns-then-out_of_range : goal.returns-then-out_of_range
-returns-then-out_of_range c =
-    sym (first-is _ 0 buckets _ zero-le c.loop-k-test.true (sym c.out_of_range.ensures ∙ c.if-out_of_range.true) (λ j _ h. c.loop-k.invariant.1 j h))
-
-pub loop-k-preserved : goal.loop-k-preserved
-loop-k-preserved c =
-    (omega arith, below_more _ _ c.loop-k.invariant.1 (sym c.out_of_range.ensures ∙ c.if-out_of_range.false))
+-- what a search over n numbers from 0 answers
+found : (bad : ℕ → Bool) (n : ℕ) (r : Option ℕ)
+    → MatchOption r ((k : ℕ) → 0 ≤ k → k < n → bad k ≡ false)
+    (λ i. (0 ≤ i) × (i < n) × (bad i ≡ true) × ((k : ℕ) → 0 ≤ k → k < i → bad k ≡ false))
+    → MatchOption r (first bad 0 n ≡ n) (λ k. (first bad 0 n ≡ k) × (k < n))
+found bad n None h = none_first bad 0 n (λ k l m. h k l (omega arith)) ∙ zero-add n
+found bad n (Some i) h = (first-is bad 0 n i zero-le (omega (arith, h.1)) h.2 h.3, h.1)
 
 pub returns : goal.returns
-returns c = sym (none_first _ 0 buckets (λ j _ h. c.loop-k.invariant.1 j (omega arith)))
+returns c =
+    found (bad_shocked (curve_of c.args.rates.now c.args.shocks)) 19 _
+    (first_from_Range _ _ _ c.find.result
+    (λ k. bad_shocked (curve_of c.args.rates.now c.args.shocks) k ≡ true)
+    (λ k. bad_shocked (curve_of c.args.rates.now c.args.shocks) k ≡ false)
+    c.find.ensures.ran (λ x q k. search (rules, tests)) (λ x q k. search (rules, tests)))
