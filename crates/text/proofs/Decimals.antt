@@ -8,7 +8,9 @@ use native.Mathlib.Omega.{arith}
 use borrow.Author.Tests.{lt-ltb, le-ltb}
 use lib.IntN.{ℤ, pos, negsuc, nat_abs}
 use lib.ListN.{length, length-append}
-use lib.Signed.{lt_z}
+use lib.Signed.{lt_z, mag}
+use Rattle.std.specs.Fmt.{decimal as printed_decimal, signed_decimal as printed_signed_decimal}
+use Rattle.std.proofs.lemmas.Fmt.{decimal_by_steps}
 use Rattle.std.specs.Prelude.{if◌then◌else◌}
 use Rattle.laws.specs.Tests.{◌below◌}
 use Rattle.laws.proofs.Order.{lt_z-true, lt_z-false}
@@ -83,3 +85,19 @@ pointed-length n = omega (arith, decimal-length (n / 100), length-append (decima
 pub pointed-line-length : (letter : ℕ) (z : ℤ) → length (pointed_line letter z) ≤ 27
 unfolding pointed_line
 pointed-line-length letter z = omega (arith, sign-length pointed 23 pointed-length z, length-append (with_sign pointed z) (10 ∷ []))
+
+-- ---- the library's text of a number
+
+pub as_printed : (n : ℕ) → n < 2 ^ 64 → printed_decimal n ≡ decimal n
+as_printed n h = decimal_by_steps (λ m text. m < 2 ^ 64 → text ≡ decimal m) one more n h h
+  where
+    one : (m : ℕ) → m < 10 → m < 2 ^ 64 → (48 + m) ∷ [] ≡ decimal m
+    one m digit small = sym (decimal_digit m digit)
+
+    more : (m : ℕ) (front : List ℕ) → 10 ≤ m → (m / 10 < 2 ^ 64 → front ≡ decimal (m / 10)) → m < 2 ^ 64 → front ++ ((48 + m % 10) ∷ []) ≡ decimal m
+    more m front least tenth small = rw (decimal-more m least (omega arith), tenth (omega arith))
+
+pub as_printed-signed : (z : ℤ) → mag z < 2 ^ 63 → printed_signed_decimal z ≡ signed_decimal z
+unfolding with_sign
+as_printed-signed (pos n) h = as_printed n (omega arith)
+as_printed-signed (negsuc n) h = ap (λ (t : List ℕ). 45 ∷ t) (as_printed (suc n) (omega arith))

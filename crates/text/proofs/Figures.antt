@@ -1,19 +1,21 @@
 -- The report's numbers line by line: those of one line stand side by side in it, and how many bytes the lines are.
 use Prim.Native.Nat.{ℕ, ◌+◌, ◌*◌, ◌-◌, ◌≤◌}
 use mathlib.Core.Bool.{Bool}
-use mathlib.Core.List.{List}
+use mathlib.Core.List.{List, [], ◌∷◌, ◌++◌}
 use mathlib.Core.Path.{◌≡◌, ap, ◌∙◌}
 use native.Mathlib.Omega.{arith}
 use lib.IntN.{ℤ, pos}
-use lib.ListN.{length, get_or}
+use lib.ListN.{length, get_or, length-append}
 use Rattle.laws.specs.Lists.{tabulate_from, section}
 use Rattle.laws.proofs.Lists.{tabulate_from-is}
 use Rattle.laws.proofs.Sections.{length-section, section-at}
 use Rattle.paper.specs.Records.{currencies}
 use Rattle.paper.specs.Ledger.{figures}
-use Rattle.paper.specs.Verdict.{measure_at}
-use Rattle.paper.specs.Program.{line, changes_line, curved_lines}
+use Rattle.paper.specs.Verdict.{sum_at, measure_at, worst_at, tolerance_at, verdict_at}
+use Rattle.paper.specs.Program.{line, changes_line, curved_lines, verdict_word, report_text}
+use Rattle.text.specs.Longest.{longest_text}
 use Rattle.text.proofs.Items.{line-length}
+use Rattle.text.proofs.Words.{verdict-length}
 use Rattle.text.proofs.CurvedLines.{lines-length}
 
 pub side_by_side : (report : List ℤ) (a n : ℕ) → a + n ≤ length report
@@ -45,3 +47,21 @@ line-lengths curved report e =
       three = three;
       measures = omega (arith, line-length 77 (section (measure_at currencies) 3 report));
     }
+
+pub report-length : (curved : ℕ → Bool) (report : List ℤ) → length (report_text currencies curved report) ≤ longest_text
+unfolding report_text tabulate_from
+report-length curved report =
+    let changes = curved_lines curved (changes_line report) currencies in
+    let sums = line 83 (tabulate_from (λ i. get_or report (sum_at currencies i) (pos 0)) 1 6) in
+    let measures = line 77 (get_or report (measure_at currencies) (pos 0) ∷ get_or report (worst_at currencies) (pos 0) ∷ get_or report (tolerance_at currencies) (pos 0) ∷ []) in
+    let verdict = get_or report (verdict_at currencies) (pos 0) in
+    omega (
+      arith,
+      length-append changes sums,
+      length-append (changes ++ sums) measures,
+      length-append ((changes ++ sums) ++ measures) (86 ∷ 32 ∷ verdict_word verdict ++ (10 ∷ [])),
+      lines-length curved (changes_line report) 156 (λ c. changes-length report c) currencies,
+      line-length 83 (tabulate_from (λ i. get_or report (sum_at currencies i) (pos 0)) 1 6),
+      line-length 77 (get_or report (measure_at currencies) (pos 0) ∷ get_or report (worst_at currencies) (pos 0) ∷ get_or report (tolerance_at currencies) (pos 0) ∷ []),
+      verdict-length verdict,
+    )

@@ -1,4 +1,5 @@
 pub mod Writing
+pub mod Pages
 pub mod Decimals
 pub mod Items
 pub mod Words

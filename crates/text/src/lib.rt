@@ -3,9 +3,9 @@
 
 use paper::CURRENCIES;
 
-pub mod bytes;
 pub mod lines;
 pub mod numbers;
+pub mod page;
 pub mod refusal;
 pub mod report;
 

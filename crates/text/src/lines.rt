@@ -1,99 +1,75 @@
 // A line: its letter, its items after single spaces, a newline.
-ghost use Rattle.std.specs.Prelude.{◌+◌, ◌*◌, ◌≤◌, [], ◌∷◌, pos, length};
+ghost use Rattle.std.specs.Prelude.{ℤ, pos, ◌+◌, ◌*◌, [], ◌∷◌, ◌++◌, length, map};
 ghost use Rattle.paper.specs.Program.{items, line};
 ghost use Rattle.paper.specs.Detail.{pointed_line};
-ghost use Rattle.text.specs.Written.{Wrote};
+ghost use Rattle.text.specs.Pages.{HasRoom, Adds};
 
-use crate::bytes::put_byte;
-use crate::numbers::{put_decimal, put_number, put_signed_pointed};
+use crate::page::Page;
 
-// A space, a sign and twenty digits at most.
-pub fn put_item(out: &mut [u8], at: usize, z: i64) -> usize
-    requires { at + 22 ≤ length out.old }
-    ensures { Wrote (items (z ∷ [])) at out.old result out.new }
-{
-    let next = put_byte(out, at, b' ');
-    put_number(out, next, z)
+// A number that stands in a line: a space, a sign and twenty digits at most.
+pub trait Item: Copy {
+    ghost number: { Self → ℤ };
+
+    fn put(self, page: &mut Page<'_>)
+        requires { HasRoom 22 page.old }
+        ensures { Adds (items (number self ∷ [])) page.old page.new };
 }
 
-// An item that has no sign.
-pub fn put_natural(out: &mut [u8], at: usize, n: u64) -> usize
-    requires { at + 22 ≤ length out.old }
-    ensures { Wrote (items (pos n ∷ [])) at out.old result out.new }
-{
-    let next = put_byte(out, at, b' ');
-    put_decimal(out, next, n)
-}
+impl Item for u64 {
+    ghost number = { pos };
 
-pub fn put_items(out: &mut [u8], at: usize, numbers: &[i64]) -> usize
-    requires { at + 22 * length numbers.now ≤ length out.old }
-    ensures { Wrote (items numbers.now) at out.old result out.new }
-{
-    let mut next = at;
-    let mut k = 0;
-    while k < numbers.len() {
-        next = put_item(out, next, numbers[k]);
-        k += 1;
+    fn put(self, page: &mut Page<'_>) {
+        page.byte(b' ');
+        page.natural(self);
     }
-    next
 }
 
-pub fn put_line(out: &mut [u8], at: usize, letter: u8, numbers: &[i64]) -> usize
-    requires { at + 22 * length numbers.now + 2 ≤ length out.old }
-    ensures { Wrote (line letter numbers.now) at out.old result out.new }
-{
-    let first = put_byte(out, at, letter);
-    let last = put_items(out, first, numbers);
-    put_byte(out, last, b'\n')
+impl Item for i64 {
+    ghost number = { λ z. z };
+
+    fn put(self, page: &mut Page<'_>) {
+        page.byte(b' ');
+        page.integer(self);
+    }
 }
 
-// The first item has no sign and stands apart from the others.
-pub fn put_headed_line(out: &mut [u8], at: usize, letter: u8, head: u64, numbers: &[i64]) -> usize
-    requires { at + 22 * length numbers.now + 24 ≤ length out.old }
-    ensures { Wrote (line letter (pos head ∷ numbers.now)) at out.old result out.new }
-{
-    let first = put_byte(out, at, letter);
-    let second = put_natural(out, first, head);
-    let last = put_items(out, second, numbers);
-    put_byte(out, last, b'\n')
+impl Item for i32 {
+    ghost number = { λ z. z };
+
+    fn put(self, page: &mut Page<'_>) {
+        i64::from(self).put(page);
+    }
 }
 
-// Two items that have no sign stand before the others.
-pub fn put_row(
-    out: &mut [u8],
-    at: usize,
-    letter: u8,
-    currency: u64,
-    scenario: u64,
-    numbers: &[i64],
-) -> usize
-    requires { at + 22 * length numbers.now + 46 ≤ length out.old }
-    ensures { Wrote (line letter (pos currency ∷ pos scenario ∷ numbers.now)) at out.old result out.new }
-{
-    let first = put_byte(out, at, letter);
-    let second = put_natural(out, first, currency);
-    let third = put_natural(out, second, scenario);
-    let last = put_items(out, third, numbers);
-    put_byte(out, last, b'\n')
-}
+impl<'a> Page<'a> {
+    pub fn items<I: Item>(&mut self, numbers: &[I])
+        requires { HasRoom (22 * length numbers.now) self.old }
+        ensures { Adds (items (map I.number numbers.now)) self.old self.new }
+    {
+        for number in numbers {
+            number.put(self);
+        }
+    }
 
-// One item that has no sign.
-pub fn put_natural_line(out: &mut [u8], at: usize, letter: u8, n: u64) -> usize
-    requires { at + 24 ≤ length out.old }
-    ensures { Wrote (line letter (pos n ∷ [])) at out.old result out.new }
-{
-    let first = put_byte(out, at, letter);
-    let last = put_natural(out, first, n);
-    put_byte(out, last, b'\n')
-}
+    // The heads have no sign and stand before the other items.
+    pub fn line<I: Item>(&mut self, letter: u8, heads: &[u64], numbers: &[I])
+        requires { HasRoom (22 * length heads.now + 22 * length numbers.now + 2) self.old }
+        ensures { Adds (line letter (map pos heads.now ++ map I.number numbers.now)) self.old self.new }
+    {
+        self.byte(letter);
+        self.items(heads);
+        self.items(numbers);
+        self.byte(b'\n');
+    }
 
-// One item in hundredths.
-pub fn put_pointed_line(out: &mut [u8], at: usize, letter: u8, z: i64) -> usize
-    requires { at + 27 ≤ length out.old }
-    ensures { Wrote (pointed_line letter z) at out.old result out.new }
-{
-    let first = put_byte(out, at, letter);
-    let second = put_byte(out, first, b' ');
-    let last = put_signed_pointed(out, second, z);
-    put_byte(out, last, b'\n')
+    // One item in hundredths.
+    pub fn pointed_line(&mut self, letter: u8, z: i64)
+        requires { HasRoom 27 self.old }
+        ensures { Adds (pointed_line letter z) self.old self.new }
+    {
+        self.byte(letter);
+        self.byte(b' ');
+        self.signed_pointed(z);
+        self.byte(b'\n');
+    }
 }

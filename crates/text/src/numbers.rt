@@ -1,22 +1,11 @@
 // Numbers in decimal.
-ghost use Rattle.std.specs.Prelude.{◌+◌, ◌≤◌, ◌≡◌, length};
+ghost use Rattle.std.specs.Prelude.{◌+◌, ◌≤◌, ◌≡◌};
 ghost use Rattle.paper.specs.Program.{decimal, with_sign, signed_decimal};
 ghost use Rattle.paper.specs.Detail.{pointed};
-ghost use Rattle.text.specs.Written.{Wrote};
+ghost use Rattle.text.specs.Pages.{HasRoom, Adds};
 
-use crate::bytes::put_byte;
-
-// Twenty digits hold every u64. The digits before the last are those of a tenth of the number.
-pub fn put_decimal(out: &mut [u8], at: usize, n: u64) -> usize
-    requires { at + 20 ≤ length out.old }
-    ensures { Wrote (decimal n) at out.old result out.new }
-{
-    if n < 10 {
-        return put_byte(out, at, digit(n));
-    }
-    let last = put_decimal(out, at, n / 10);
-    put_byte(out, last, digit(n % 10))
-}
+use crate::page::Page;
+use itoa::Buffer;
 
 fn digit(d: u64) -> u8
     requires { d ≤ 9 }
@@ -25,38 +14,41 @@ fn digit(d: u64) -> u8
     48 + d as u8
 }
 
-// With a minus sign below zero.
-pub fn put_number(out: &mut [u8], at: usize, z: i64) -> usize
-    requires { at + 21 ≤ length out.old }
-    ensures { Wrote (signed_decimal z) at out.old result out.new }
-{
-    let size = z.unsigned_abs();
-    if z < 0 {
-        let digits = put_byte(out, at, b'-');
-        return put_decimal(out, digits, size);
+impl<'a> Page<'a> {
+    // Twenty digits hold every u64.
+    pub fn natural(&mut self, n: u64)
+        requires { HasRoom 20 self.old }
+        ensures { Adds (decimal n) self.old self.new }
+    {
+        self.text(Buffer::new().format(n));
     }
-    put_decimal(out, at, size)
-}
 
-// Hundredths, with two digits after the point.
-fn put_pointed(out: &mut [u8], at: usize, n: u64) -> usize
-    requires { at + 23 ≤ length out.old }
-    ensures { Wrote (pointed n) at out.old result out.new }
-{
-    let point = put_decimal(out, at, n / 100);
-    let tenths = put_byte(out, point, b'.');
-    let last = put_byte(out, tenths, digit(n / 10 % 10));
-    put_byte(out, last, digit(n % 10))
-}
-
-pub fn put_signed_pointed(out: &mut [u8], at: usize, z: i64) -> usize
-    requires { at + 24 ≤ length out.old }
-    ensures { Wrote (with_sign pointed z) at out.old result out.new }
-{
-    let size = z.unsigned_abs();
-    if z < 0 {
-        let digits = put_byte(out, at, b'-');
-        return put_pointed(out, digits, size);
+    // With a minus sign below zero.
+    pub fn integer(&mut self, z: i64)
+        requires { HasRoom 21 self.old }
+        ensures { Adds (signed_decimal z) self.old self.new }
+    {
+        self.text(Buffer::new().format(z));
     }
-    put_pointed(out, at, size)
+
+    // Hundredths, with two digits after the point.
+    fn pointed(&mut self, n: u64)
+        requires { HasRoom 23 self.old }
+        ensures { Adds (pointed n) self.old self.new }
+    {
+        self.natural(n / 100);
+        self.byte(b'.');
+        self.byte(digit(n / 10 % 10));
+        self.byte(digit(n % 10));
+    }
+
+    pub fn signed_pointed(&mut self, z: i64)
+        requires { HasRoom 24 self.old }
+        ensures { Adds (with_sign pointed z) self.old self.new }
+    {
+        if z < 0 {
+            self.byte(b'-');
+        }
+        self.pointed(z.unsigned_abs());
+    }
 }

@@ -2,8 +2,7 @@
 ghost use Rattle.std.specs.Prelude.{◌≤◌, ◌++◌, ◌≡◌, length, drop};
 ghost use Rattle.paper.specs.Program.{refusal_text};
 
-use crate::bytes::put_byte;
-use crate::lines::put_natural;
+use crate::page::Page;
 
 // R with number and place. Answers how many bytes it is; those after it are left as they are.
 pub fn write_refusal(number: u64, place: u64, out: &mut [u8]) -> usize
@@ -11,8 +10,7 @@ pub fn write_refusal(number: u64, place: u64, out: &mut [u8]) -> usize
     ensures value { (result ≡ length (refusal_text number place)) × (result ≤ 64) }
     ensures out_after { out.new ≡ refusal_text number place ++ drop result out.old }
 {
-    let first = put_byte(out, 0, b'R');
-    let second = put_natural(out, first, number);
-    let last = put_natural(out, second, place);
-    put_byte(out, last, b'\n')
+    let mut page = Page::new(out);
+    page.line(b'R', &[], &[number, place]);
+    page.written()
 }

@@ -1,14 +1,13 @@
 // The lines of a report: its numbers stand in one slice, changes first, then sums, measure, worst, total tolerance and verdict.
-ghost use Rattle.std.specs.Prelude.{◌+◌, ◌*◌, ◌≤◌, [], ◌∷◌, ◌++◌, ◌≡◌, length, drop, if◌then◌else◌};
+ghost use Rattle.std.specs.Prelude.{◌*◌, ◌≤◌, [], ◌∷◌, ◌++◌, ◌≡◌, length, drop, if◌then◌else◌};
 ghost use Rattle.paper.specs.Records.{currencies};
 ghost use Rattle.paper.specs.Ledger.{figures};
 ghost use Rattle.paper.specs.Program.{changes_line, curved_lines, verdict_word, report_text};
 ghost use Rattle.arrays.specs.Masks.{curved_by};
-ghost use Rattle.text.specs.Written.{Wrote};
+ghost use Rattle.text.specs.Pages.{HasRoom, Adds};
 ghost use Rattle.text.specs.Longest.{longest_text};
 
-use crate::bytes::put_text;
-use crate::lines::{put_headed_line, put_line};
+use crate::page::Page;
 use arrays::masks::has_curve;
 use paper::{CHANGES, CURRENCIES, SHOCKED};
 
@@ -17,54 +16,61 @@ const MEASURE: usize = CHANGES + SHOCKED;
 
 const VERDICT: usize = MEASURE + 3;
 
-// C with currency and six changes; no line where the currency has no curve.
-fn put_changes(out: &mut [u8], at: usize, report: &[i64], curved: u32, currency: u32) -> usize
-    requires le_currency { (1 ≤ currency) × (currency ≤ currencies) }
-    requires report_len { (length report.now ≡ figures currencies) × (at + 156 ≤ length out.old) }
-    ensures { Wrote (if curved_by curved currency then changes_line report.now currency else []) at out.old result out.new }
-{
-    if has_curve(curved, currency) {
-        let from = SHOCKED * (currency as usize - 1);
-        let to = from + SHOCKED;
-        return put_headed_line(out, at, b'C', currency as u64, &report[from..to]);
+impl<'a> Page<'a> {
+    // C with currency and six changes; no line where the currency has no curve.
+    fn changes(&mut self, report: &[i64], curved: u32, currency: u32)
+        requires le_currency { (1 ≤ currency) × (currency ≤ currencies) }
+        requires report_len { (length report.now ≡ figures currencies) × HasRoom 156 self.old }
+        ensures { Adds (if curved_by curved currency then changes_line report.now currency else []) self.old self.new }
+    {
+        if has_curve(curved, currency) {
+            let from = SHOCKED * (currency as usize - 1);
+            let to = from + SHOCKED;
+            self.line(b'C', &[currency as u64], &report[from..to]);
+        }
     }
-    at
+
+    // Currency by currency.
+    fn all_changes(&mut self, report: &[i64], curved: u32)
+        requires { (length report.now ≡ figures currencies) × HasRoom (156 * currencies) self.old }
+        ensures { Adds (curved_lines (curved_by curved) (changes_line report.now) currencies) self.old self.new }
+    {
+        for currency in 1..=CURRENCIES as u32 {
+            self.changes(report, curved, currency);
+        }
+    }
+
+    // V with the verdict.
+    fn verdict(&mut self, verdict: i64)
+        requires { HasRoom 9 self.old }
+        ensures { Adds (86 ∷ 32 ∷ verdict_word verdict ++ (10 ∷ [])) self.old self.new }
+    {
+        match verdict {
+            1 => self.text("V OVER\n"),
+            2 => self.text("V WITHIN\n"),
+            _ => self.text("V CLOSE\n"),
+        }
+    }
+
+    // Each line starts where the one before it ends.
+    pub fn report(&mut self, report: &[i64], curved: u32)
+        requires { (length report.now ≡ figures currencies) × HasRoom longest_text self.old }
+        ensures { Adds (report_text currencies (curved_by curved) report.now) self.old self.new × (length (report_text currencies (curved_by curved) report.now) ≤ longest_text) }
+    {
+        self.all_changes(report, curved);
+        self.line(b'S', &[], &report[CHANGES..MEASURE]);
+        self.line(b'M', &[], &report[MEASURE..VERDICT]);
+        self.verdict(report[VERDICT]);
+    }
 }
 
-// Currency by currency, from the start of the buffer.
-fn put_all_changes(out: &mut [u8], report: &[i64], curved: u32) -> usize
-    requires { (length report.now ≡ figures currencies) × (156 * currencies ≤ length out.old) }
-    ensures { Wrote (curved_lines (curved_by curved) (changes_line report.now) currencies) 0 out.old result out.new }
-{
-    let mut next = 0;
-    for currency in 1..=CURRENCIES as u32 {
-        next = put_changes(out, next, report, curved, currency);
-    }
-    next
-}
-
-// V with the verdict.
-fn put_verdict(out: &mut [u8], at: usize, verdict: i64) -> usize
-    requires { at + 9 ≤ length out.old }
-    ensures { Wrote (86 ∷ 32 ∷ verdict_word verdict ++ (10 ∷ [])) at out.old result out.new }
-{
-    if verdict == 1 {
-        return put_text(out, at, b"V OVER\n");
-    }
-    if verdict == 2 {
-        return put_text(out, at, b"V WITHIN\n");
-    }
-    put_text(out, at, b"V CLOSE\n")
-}
-
-// Each line starts where the one before it ends. Answers how many bytes they are; those after them are left as they are.
+// Answers how many bytes they are; those after them are left as they are.
 pub fn write_report(report: &[i64], curved: u32, out: &mut [u8]) -> usize
     requires { (length report.now ≡ figures currencies) × (longest_text ≤ length out.old) }
     ensures value { (result ≡ length (report_text currencies (curved_by curved) report.now)) × (result ≤ longest_text) }
     ensures out_after { out.new ≡ report_text currencies (curved_by curved) report.now ++ drop result out.old }
 {
-    let sums = put_all_changes(out, report, curved);
-    let measure = put_line(out, sums, b'S', &report[CHANGES..MEASURE]);
-    let verdict = put_line(out, measure, b'M', &report[MEASURE..VERDICT]);
-    put_verdict(out, verdict, report[VERDICT])
+    let mut page = Page::new(out);
+    page.report(report, curved);
+    page.written()
 }

@@ -1,5 +1,0 @@
--- The digits before the last are those of a tenth of the number, which is less.
-use Rattle.text.proofs.numbers.+put_decimal.Given as goal
-
-abbrev pub decreases-put_decimal : goal.decreases-put_decimal
-decreases-put_decimal l = l.n
