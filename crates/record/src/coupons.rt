@@ -1,11 +1,12 @@
 // Kind 2, fixed coupons: currency, side, period (1), count (2), coupon, principal.
 ghost use Rattle.std.specs.Prelude.{◌≡◌};
-ghost use Rattle.paper.specs.Records.{currencies};
+ghost use Rattle.paper.specs.Refusals.{checked_as};
+ghost use Rattle.paper.specs.Records.{flows, currencies};
 ghost use Rattle.paper.specs.Decode.{decode_coupons};
-ghost use Rattle.record.specs.Answers.{Body, coupons_read};
+ghost use Rattle.record.specs.Answers.{Body, coupons_of};
 
-use fields::amounts::{Amount, amount_at};
-use fields::{Field, count_at, period_at, side_at};
+use fields::amounts::amount_at;
+use fields::{count_at, period_at, side_at};
 use paper::Fault;
 use scales::Thousands;
 
@@ -19,37 +20,16 @@ pub struct Coupons {
     pub principal: Thousands,
 }
 
-#[derive(Clone, Copy)]
-pub enum DecodedCoupons {
-    Is(Coupons),
-    Refused(Fault),
-}
-
-pub fn decode_coupons(currency: u32, body: &[u8]) -> DecodedCoupons
+pub fn decode_coupons(currency: u32, body: &[u8]) -> Result<Coupons, Fault>
     requires { Body 13 currency body.now }
-    ensures { coupons_read result ≡ decode_coupons currencies body.now }
+    ensures { checked_as (λ s. flows s.currency (coupons_of s)) result ≡ decode_coupons currencies body.now }
 {
-    let read = side_at(body, 1);
-    let Field::Value(side) = read else {
-        return DecodedCoupons::Refused(read.fault());
-    };
-    let read = period_at(body, 2);
-    let Field::Value(period) = read else {
-        return DecodedCoupons::Refused(read.fault());
-    };
-    let read = count_at(0, period, body, 3);
-    let Field::Value(count) = read else {
-        return DecodedCoupons::Refused(read.fault());
-    };
-    let read = amount_at(body, 5);
-    let Amount::Value(coupon) = read else {
-        return DecodedCoupons::Refused(read.fault());
-    };
-    let read = amount_at(body, 9);
-    let Amount::Value(principal) = read else {
-        return DecodedCoupons::Refused(read.fault());
-    };
-    DecodedCoupons::Is(Coupons {
+    let side = side_at(body, 1)?;
+    let period = period_at(body, 2)?;
+    let count = count_at(0, period, body, 3)?;
+    let coupon = amount_at(body, 5)?;
+    let principal = amount_at(body, 9)?;
+    Ok(Coupons {
         currency,
         side,
         period,

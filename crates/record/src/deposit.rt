@@ -1,13 +1,13 @@
 // Kind 4, a non-maturity deposit: currency, category (1), total, 19 core amounts. The core is checked where it stands; the answer holds the
 // fields before it.
 ghost use Rattle.std.specs.Prelude.{◌≡◌};
-ghost use Rattle.paper.specs.Records.{currencies};
+ghost use Rattle.paper.specs.Refusals.{checked_as};
+ghost use Rattle.paper.specs.Records.{flows, currencies};
 ghost use Rattle.paper.specs.Decode.{decode_deposit};
-ghost use Rattle.record.specs.Answers.{Body, deposit_read};
+ghost use Rattle.record.specs.Answers.{Body, deposit_of};
 
-use crate::record_fault;
-use fields::amounts::{Amount, Amounts, amount_at, amounts_at};
-use fields::{Field, category_at};
+use fields::amounts::{amount_at, amounts_at};
+use fields::{category_at, record_fault};
 use paper::{Fault, Refusal};
 use rules::deposit::{above_cap, too_long, weighed_core};
 use scales::Thousands;
@@ -19,35 +19,20 @@ pub struct Deposit {
     pub total: Thousands,
 }
 
-#[derive(Clone, Copy)]
-pub enum DecodedDeposit {
-    Is(Deposit),
-    Refused(Fault),
-}
-
-pub fn decode_deposit(currency: u32, body: &[u8]) -> DecodedDeposit
+pub fn decode_deposit(currency: u32, body: &[u8]) -> Result<Deposit, Fault>
     requires { Body 82 currency body.now }
-    ensures { deposit_read body.now result ≡ decode_deposit currencies body.now }
+    ensures { checked_as (λ s. flows s.currency (deposit_of body.now s)) result ≡ decode_deposit currencies body.now }
 {
-    let read = category_at(body, 1);
-    let Field::Value(category) = read else {
-        return DecodedDeposit::Refused(read.fault());
-    };
-    let read = amount_at(body, 2);
-    let Amount::Value(total) = read else {
-        return DecodedDeposit::Refused(read.fault());
-    };
-    let read = amounts_at(body, 6);
-    let Amounts::Sum(core) = read else {
-        return DecodedDeposit::Refused(read.fault());
-    };
+    let category = category_at(body, 1)?;
+    let total = amount_at(body, 2)?;
+    let core = amounts_at(body, 6)?;
     if above_cap(category, total, core) {
-        return DecodedDeposit::Refused(record_fault(Refusal::CoreAboveCap));
+        return Err(record_fault(Refusal::CoreAboveCap));
     }
     if too_long(category, core, weighed_core(body)) {
-        return DecodedDeposit::Refused(record_fault(Refusal::CoreTooLong));
+        return Err(record_fault(Refusal::CoreTooLong));
     }
-    DecodedDeposit::Is(Deposit {
+    Ok(Deposit {
         currency,
         category,
         total,

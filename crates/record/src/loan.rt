@@ -1,13 +1,13 @@
 // Kind 5, a prepayable loan: currency, share, 19 scheduled principals, 19 scheduled interests. The amounts are checked where they stand; the
 // answer holds the fields before them.
 ghost use Rattle.std.specs.Prelude.{◌≡◌};
-ghost use Rattle.paper.specs.Records.{currencies};
+ghost use Rattle.paper.specs.Refusals.{checked_as};
+ghost use Rattle.paper.specs.Records.{flows, currencies};
 ghost use Rattle.paper.specs.Decode.{decode_loan};
-ghost use Rattle.record.specs.Answers.{Body, loan_read};
+ghost use Rattle.record.specs.Answers.{Body, loan_of};
 
-use crate::record_fault;
-use fields::amounts::{Amounts, amounts_at};
-use fields::{Field, share_at};
+use fields::amounts::amounts_at;
+use fields::{record_fault, share_at};
 use paper::{BUCKETS, Fault, Refusal};
 use rules::loan::interest_alone;
 
@@ -17,37 +17,22 @@ pub struct Loan {
     pub share: u32,
 }
 
-#[derive(Clone, Copy)]
-pub enum DecodedLoan {
-    Is(Loan),
-    Refused(Fault),
-}
-
-pub fn decode_loan(currency: u32, body: &[u8]) -> DecodedLoan
+pub fn decode_loan(currency: u32, body: &[u8]) -> Result<Loan, Fault>
     requires { Body 155 currency body.now }
-    ensures { loan_read body.now result ≡ decode_loan currencies body.now }
+    ensures { checked_as (λ s. flows s.currency (loan_of body.now s)) result ≡ decode_loan currencies body.now }
 {
-    let read = share_at(body, 1);
-    let Field::Value(share) = read else {
-        return DecodedLoan::Refused(read.fault());
-    };
-    let read = amounts_at(body, 3);
-    let Amounts::Sum(principal) = read else {
-        return DecodedLoan::Refused(read.fault());
-    };
-    let read = amounts_at(body, 79);
-    let Amounts::Sum(interest) = read else {
-        return DecodedLoan::Refused(read.fault());
-    };
+    let share = share_at(body, 1)?;
+    let principal = amounts_at(body, 3)?;
+    let interest = amounts_at(body, 79)?;
     let bare = interest_alone(body, principal);
     if bare < BUCKETS {
-        return DecodedLoan::Refused(Fault {
+        return Err(Fault {
             cause: Refusal::InterestAlone,
             place: 80 + 4 * bare,
         });
     }
     if 1000000000 < principal.0 + interest.0 {
-        return DecodedLoan::Refused(record_fault(Refusal::OverLimit));
+        return Err(record_fault(Refusal::OverLimit));
     }
-    DecodedLoan::Is(Loan { currency, share })
+    Ok(Loan { currency, share })
 }

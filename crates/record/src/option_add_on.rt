@@ -1,13 +1,14 @@
 // Kind 7, an option add-on: currency, side (1 sold, 2 bought), six signed values, one for each scenario.
 ghost use Rattle.std.specs.Prelude.{◌≡◌};
 ghost use Rattle.paper.specs.Refusals.{accepted};
-ghost use Rattle.paper.specs.Records.{currencies};
+ghost use Rattle.paper.specs.Refusals.{checked_as};
+ghost use Rattle.paper.specs.Records.{option, currencies};
 ghost use Rattle.paper.specs.Fields.{side_at};
 ghost use Rattle.paper.specs.Decode.{decode_option};
-ghost use Rattle.record.specs.Answers.{Body, option_read};
+ghost use Rattle.record.specs.Answers.{Body, values_of};
 
-use fields::options::{OptionValue, option_at};
-use fields::{Field, side_at};
+use fields::options::option_at;
+use fields::side_at;
 use paper::Fault;
 use scales::SignedThousands;
 
@@ -23,42 +24,18 @@ pub struct OptionAddOn {
     pub short_down: SignedThousands,
 }
 
-#[derive(Clone, Copy)]
-pub enum DecodedOption {
-    Is(OptionAddOn),
-    Refused(Fault),
-}
-
 // The six values, once the side is read.
-fn decode_values(currency: u32, side: u32, body: &[u8]) -> DecodedOption
+fn decode_values(currency: u32, side: u32, body: &[u8]) -> Result<OptionAddOn, Fault>
     requires { Body 26 currency body.now × (side_at body.now 1 ≡ accepted side) }
-    ensures { option_read result ≡ decode_option currencies body.now }
+    ensures { checked_as (λ s. option s.currency s.side (values_of s)) result ≡ decode_option currencies body.now }
 {
-    let read = option_at(body, 2);
-    let OptionValue::Value(up) = read else {
-        return DecodedOption::Refused(read.fault());
-    };
-    let read = option_at(body, 6);
-    let OptionValue::Value(down) = read else {
-        return DecodedOption::Refused(read.fault());
-    };
-    let read = option_at(body, 10);
-    let OptionValue::Value(steepener) = read else {
-        return DecodedOption::Refused(read.fault());
-    };
-    let read = option_at(body, 14);
-    let OptionValue::Value(flattener) = read else {
-        return DecodedOption::Refused(read.fault());
-    };
-    let read = option_at(body, 18);
-    let OptionValue::Value(short_up) = read else {
-        return DecodedOption::Refused(read.fault());
-    };
-    let read = option_at(body, 22);
-    let OptionValue::Value(short_down) = read else {
-        return DecodedOption::Refused(read.fault());
-    };
-    DecodedOption::Is(OptionAddOn {
+    let up = option_at(body, 2)?;
+    let down = option_at(body, 6)?;
+    let steepener = option_at(body, 10)?;
+    let flattener = option_at(body, 14)?;
+    let short_up = option_at(body, 18)?;
+    let short_down = option_at(body, 22)?;
+    Ok(OptionAddOn {
         currency,
         side,
         up,
@@ -70,13 +47,10 @@ fn decode_values(currency: u32, side: u32, body: &[u8]) -> DecodedOption
     })
 }
 
-pub fn decode_option(currency: u32, body: &[u8]) -> DecodedOption
+pub fn decode_option(currency: u32, body: &[u8]) -> Result<OptionAddOn, Fault>
     requires { Body 26 currency body.now }
-    ensures { option_read result ≡ decode_option currencies body.now }
+    ensures { checked_as (λ s. option s.currency s.side (values_of s)) result ≡ decode_option currencies body.now }
 {
-    let read = side_at(body, 1);
-    let Field::Value(side) = read else {
-        return DecodedOption::Refused(read.fault());
-    };
+    let side = side_at(body, 1)?;
     decode_values(currency, side, body)
 }

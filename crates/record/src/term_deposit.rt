@@ -1,11 +1,12 @@
 // Kind 6, a term deposit: currency, share, 19 amounts. They are checked where they stand; the answer holds the fields before them.
 ghost use Rattle.std.specs.Prelude.{◌≡◌};
-ghost use Rattle.paper.specs.Records.{currencies};
+ghost use Rattle.paper.specs.Refusals.{checked_as};
+ghost use Rattle.paper.specs.Records.{flows, currencies};
 ghost use Rattle.paper.specs.Decode.{decode_term_deposit};
-ghost use Rattle.record.specs.Answers.{Body, term_deposit_read};
+ghost use Rattle.record.specs.Answers.{Body, term_deposit_of};
 
-use fields::amounts::{Amounts, amounts_at};
-use fields::{Field, share_at};
+use fields::amounts::amounts_at;
+use fields::share_at;
 use paper::Fault;
 
 #[derive(Clone, Copy)]
@@ -14,23 +15,11 @@ pub struct TermDeposit {
     pub share: u32,
 }
 
-#[derive(Clone, Copy)]
-pub enum DecodedTermDeposit {
-    Is(TermDeposit),
-    Refused(Fault),
-}
-
-pub fn decode_term_deposit(currency: u32, body: &[u8]) -> DecodedTermDeposit
+pub fn decode_term_deposit(currency: u32, body: &[u8]) -> Result<TermDeposit, Fault>
     requires { Body 79 currency body.now }
-    ensures { term_deposit_read body.now result ≡ decode_term_deposit currencies body.now }
+    ensures { checked_as (λ s. flows s.currency (term_deposit_of body.now s)) result ≡ decode_term_deposit currencies body.now }
 {
-    let read = share_at(body, 1);
-    let Field::Value(share) = read else {
-        return DecodedTermDeposit::Refused(read.fault());
-    };
-    let read = amounts_at(body, 3);
-    let Amounts::Sum(_) = read else {
-        return DecodedTermDeposit::Refused(read.fault());
-    };
-    DecodedTermDeposit::Is(TermDeposit { currency, share })
+    let share = share_at(body, 1)?;
+    amounts_at(body, 3)?;
+    Ok(TermDeposit { currency, share })
 }

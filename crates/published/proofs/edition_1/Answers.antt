@@ -1,5 +1,6 @@
 -- `edition_1`: every arm is the line that the paper's list has for the code, and there is none besides.
 use mathlib.Core.Path.{sym}
+use Rattle.std.proofs.Common.{rules}
 use Rattle.laws.specs.Tests.{first}
 use Rattle.paper.specs.Published.{edition1, line_of, shocks_for}
 use Rattle.published.specs.Lines.{in_digits}
@@ -92,4 +93,4 @@ returns-in-5914962 c = line edition1 c.in-5914962.is
 
 pub returns-in_default : goal.returns-in_default
 unfolding edition1 shocks_for line_of first in_digits
-returns-in_default c = sym (not_listed edition1 _ c.in_default.in_default-own.rest)
+returns-in_default c = sym (not_listed edition1 c.args.code (search rules))

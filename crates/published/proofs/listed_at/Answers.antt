@@ -22,16 +22,14 @@ returns-in_default c =
     let read = c.byte_at.ensures in
     ap Err c.record_fault.ensures ∙ sym (ap (result_of as_it_is) (no-edition _ _ (λ e. first (read ∙ e)) (λ e. second (read ∙ e))))
 
--- the line that was looked up
-looked : (c : goal.After-ok_or) → result_of as_it_is (listed_at c.args.body.now c.args.at) ≡ ok_or c.taken_apart.result (fault CodeNotListed 0)
-unfolding unknown_edition list_of
-looked c =
-    elim c.match-byte_at.branch [
-      in-1 w ↦ listed-in _ _ 1 edition1 (sym c.byte_at.ensures ∙ w.in-1.is) refl refl
-          (w.line-is ∙ w.edition_1-line.ensures ∙ ap (λ (code : ℕ). in_digits (shocks_for edition1 code)) c.three_at-code.ensures) c.taken_apart.ensures
-    | in-2 w ↦ listed-in _ _ 2 edition2 (sym c.byte_at.ensures ∙ w.in-2.is) refl refl
-          (w.line-is ∙ w.edition_2-line.ensures ∙ ap (λ (code : ℕ). in_digits (shocks_for edition2 code)) c.three_at-code.ensures) c.taken_apart.ensures
-    ]
-
 pub returns : goal.returns
-returns c = c.ok_or.ensures.value ∙ ap (ok_or c.taken_apart.result) c.record_fault-2.ensures ∙ sym (looked c)
+unfolding unknown_edition list_of
+returns c =
+    let looked : result_of as_it_is (listed_at c.args.body.now c.args.at) ≡ ok_or c.taken_apart.result (fault CodeNotListed 0) =
+    elim c.match-byte_at.branch [
+      | in-1 w ↦ listed-in _ _ 1 edition1 (sym c.byte_at.ensures ∙ w.in-1.is) refl refl
+          (w.line-is ∙ w.edition_1-line.ensures ∙ ap (λ (code : ℕ). in_digits (shocks_for edition1 code)) c.three_at-code.ensures) c.taken_apart.ensures
+      | in-2 w ↦ listed-in _ _ 2 edition2 (sym c.byte_at.ensures ∙ w.in-2.is) refl refl
+          (w.line-is ∙ w.edition_2-line.ensures ∙ ap (λ (code : ℕ). in_digits (shocks_for edition2 code)) c.three_at-code.ensures) c.taken_apart.ensures
+    ] in
+    c.ok_or.ensures.value ∙ ap (ok_or c.taken_apart.result) c.record_fault-2.ensures ∙ sym looked

@@ -1,61 +1,31 @@
--- `decode_floating` meets its contract, field by field.
-use mathlib.Core.Path.{refl, sym}
-use Rattle.paper.specs.Records.{currencies}
-use Rattle.paper.specs.Fields.{side_at, months_at, days_at, amount_at}
-use Rattle.paper.specs.Decode.{decode_floating}
-use Rattle.fields.proofs.Reading.{value, bad, amount-value, amount-bad}
-use Rattle.record.specs.Answers.{floating_read}
-use Rattle.record.proofs.BodyLaws.{Left, begin, out, on, then}
-use Prim.Native.Nat.{ℕ}
-use mathlib.Core.List.{List}
+-- `decode_floating` meets its contract, field by field: those before a field are read, and it is refused or read.
 use mathlib.Core.Path.{◌≡◌}
-use Rattle.paper.specs.Refusals.{accepted}
-use Rattle.record.specs.Answers.{Body}
+use Rattle.paper.specs.Refusals.{◌>>=◌, checked_as}
+use Rattle.paper.specs.Decode.{decode_floating}
+use Rattle.fields.specs.Answers.{as_it_is, thousands}
+use Rattle.fields.proofs.Reading.{handed, bad, amount-value, value}
 use Rattle.record.proofs.floating.decode_floating.Goals as goal
 
--- what is left to decode at each field, once those before it are read
-at_side : {n currency : ℕ} {body : List ℕ} → Body n currency body → Left (λ b. side_at b 1)
-unfolding decode_floating
-at_side h = begin (decode_floating currencies) _ _ h refl refl
+pub returns-in_err-side : goal.returns-in_err-side
+unfolding decode_floating ◌>>=◌ checked_as
+returns-in_err-side c = rw (handed _ c.from_residual.ensures.1, c.requires.first, bad as_it_is c.in_err-side.ensures)
 
-at-months : {n currency : ℕ} {body : List ℕ} → Body n currency body → {side : ℕ} → side_at body 1 ≡ accepted side → Left (λ b. months_at b 2)
-unfolding at_side
-at-months h e1 = then (at_side h) _ e1 refl
+pub returns-in_err-months : goal.returns-in_err-months
+unfolding decode_floating ◌>>=◌ checked_as
+returns-in_err-months c = rw (handed _ c.from_residual-in_err-months.ensures.1, c.requires.first, value c.in_ok-side.ensures, bad as_it_is c.in_err-months.ensures)
 
-at-days : {n currency : ℕ} {body : List ℕ} → Body n currency body → {side : ℕ} → side_at body 1 ≡ accepted side → {months : ℕ} → months_at body 2 ≡ accepted months → Left (λ b. days_at b 4)
-unfolding at-months
-at-days h e1 e2 = then (at-months h e1) _ e2 refl
+pub returns-in_err-days : goal.returns-in_err-days
+unfolding decode_floating ◌>>=◌ checked_as
+returns-in_err-days c = rw (handed _ c.from_residual-in_err-days.ensures.1, c.requires.first, value c.in_ok-side.ensures, value c.in_ok-months.ensures, bad as_it_is c.in_err-days.ensures)
 
-at-principal : {n currency : ℕ} {body : List ℕ} → Body n currency body → {side : ℕ} → side_at body 1 ≡ accepted side → {months : ℕ} → months_at body 2 ≡ accepted months → {days : ℕ} → days_at body 4 ≡ accepted days → Left (λ b. amount_at b 5)
-unfolding at-days
-at-principal h e1 e2 e3 = then (at-days h e1 e2) _ e3 refl
+pub returns-in_err-principal : goal.returns-in_err-principal
+unfolding decode_floating ◌>>=◌ checked_as
+returns-in_err-principal c = rw (handed _ c.from_residual-in_err-principal.ensures.1, c.requires.first, value c.in_ok-side.ensures, value c.in_ok-months.ensures, value c.in_ok-days.ensures, bad thousands c.in_err-principal.ensures)
 
-at-coupon : {n currency : ℕ} {body : List ℕ} → Body n currency body → {side : ℕ} → side_at body 1 ≡ accepted side → {months : ℕ} → months_at body 2 ≡ accepted months → {days : ℕ} → days_at body 4 ≡ accepted days → {principal : ℕ} → amount_at body 5 ≡ accepted principal → Left (λ b. amount_at b 9)
-unfolding at-principal
-at-coupon h e1 e2 e3 e4 = then (at-principal h e1 e2 e3) _ e4 refl
-
-pub returns-in_default : goal.returns-in_default
-unfolding floating_read at_side
-returns-in_default c = out (at_side c.requires) (bad c.side_at-read.ensures c.in_default.is c.fault.ensures)
-
-pub returns-in_default-read : goal.returns-in_default-read
-unfolding floating_read at-months
-returns-in_default-read c = out (at-months c.requires (value c.side_at-read.ensures c.in-Value.is)) (bad c.months_at-read.ensures c.in_default-read.is c.fault-in_default-read.ensures)
-
-pub returns-in_default-read-2 : goal.returns-in_default-read-2
-unfolding floating_read at-days
-returns-in_default-read-2 c = out (at-days c.requires (value c.side_at-read.ensures c.in-Value.is) (value c.months_at-read.ensures c.in-Value-read.is)) (bad c.days_at-read.ensures c.in_default-read-2.is c.fault-in_default-read-2.ensures)
-
-pub returns-in_default-read-3 : goal.returns-in_default-read-3
-unfolding floating_read at-principal
-returns-in_default-read-3 c =
-    out (at-principal c.requires (value c.side_at-read.ensures c.in-Value.is) (value c.months_at-read.ensures c.in-Value-read.is) (value c.days_at-read.ensures c.in-Value-read-2.is)) (amount-bad c.amount_at-read.ensures c.in_default-read-3.is c.fault-in_default-read-3.ensures)
-
-pub returns-in_default-read-4 : goal.returns-in_default-read-4
-unfolding floating_read at-coupon
-returns-in_default-read-4 c =
-    out (at-coupon c.requires (value c.side_at-read.ensures c.in-Value.is) (value c.months_at-read.ensures c.in-Value-read.is) (value c.days_at-read.ensures c.in-Value-read-2.is) (amount-value c.amount_at-read.ensures c.in-Value-read-3.is)) (amount-bad c.amount_at-read-2.ensures c.in_default-read-4.is c.fault-in_default-read-4.ensures)
+pub returns-in_err-coupon : goal.returns-in_err-coupon
+unfolding decode_floating ◌>>=◌ checked_as
+returns-in_err-coupon c = rw (handed _ c.from_residual-in_err-coupon.ensures.1, c.requires.first, value c.in_ok-side.ensures, value c.in_ok-months.ensures, value c.in_ok-days.ensures, amount-value c.in_ok-principal.ensures, bad thousands c.in_err-coupon.ensures)
 
 pub returns : goal.returns
-unfolding floating_read at-coupon
-returns c = sym (on (at-coupon c.requires (value c.side_at-read.ensures c.in-Value.is) (value c.months_at-read.ensures c.in-Value-read.is) (value c.days_at-read.ensures c.in-Value-read-2.is) (amount-value c.amount_at-read.ensures c.in-Value-read-3.is)) (amount-value c.amount_at-read-2.ensures c.in-Value-read-4.is))
+unfolding decode_floating ◌>>=◌ checked_as
+returns c = rw (c.requires.first, value c.in_ok-side.ensures, value c.in_ok-months.ensures, value c.in_ok-days.ensures, amount-value c.in_ok-principal.ensures, amount-value c.in_ok-coupon.ensures)
