@@ -20,7 +20,7 @@ use Rattle.paper.specs.Refusals.{Checked, accepted}
 use Rattle.paper.specs.Records.{Record}
 use Rattle.paper.specs.Behaviour.{whole_rate, behavioural_rate}
 use Rattle.paper.specs.Flow.{scenarios, sided, flow, magnitude}
-use Rattle.posting.specs.declared.Taken.{Taken}
+use Rattle.posting.specs.Parts.{Taken}
 use Rattle.posting.specs.Parts.{AtMost, FlowParts, Entered, row_flow, row_sum}
 use Rattle.behaviour.specs.Rows.{three_multipliers}
 use Rattle.posting.proofs.Loops.{row-long, row_at}

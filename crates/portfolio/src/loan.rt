@@ -7,17 +7,17 @@ ghost use Rattle.posting.specs.Answers.{TakesFlows};
 
 use behaviour::loan::loan_rows;
 use behaviour::rates::{RATES, ROWS};
-use posting::Taken;
+use paper::Fault;
 use posting::flows::enter_rows;
 use record::loan::{DecodedLoan, decode_loan};
 
-pub fn take_loan(currency: u32, body: &[u8], section: &mut [i64], sizes: &mut [u64]) -> Taken
+pub fn take_loan(currency: u32, body: &[u8], section: &mut [i64], sizes: &mut [u64]) -> Result<(), Fault>
     requires body { Body 155 currency body.now }
     requires flow_parts { FlowParts section.old sizes.old }
     ensures { TakesFlows (decode_loan currencies body.now) section sizes result }
 {
     match decode_loan(currency, body) {
-        DecodedLoan::Refused(fault) => Taken::Refused(fault),
+        DecodedLoan::Refused(fault) => Err(fault),
         DecodedLoan::Is(loan) => {
             // Which of the three rates each scenario has (001, table 5).
             let which = [0usize, 1, 2, 1, 2, 1, 2];

@@ -8,8 +8,7 @@ ghost use Rattle.posting.specs.Answers.{TakesFlows};
 use behaviour::amounts::row_sum;
 use behaviour::rates::{RATES, ROWS};
 use behaviour::term_deposit::withdrawn_rows;
-use paper::BUCKETS;
-use posting::Taken;
+use paper::{BUCKETS, Fault};
 use posting::flows::enter_rows;
 use record::term_deposit::{DecodedTermDeposit, decode_term_deposit};
 
@@ -18,13 +17,13 @@ pub fn take_term_deposit(
     body: &[u8],
     section: &mut [i64],
     sizes: &mut [u64],
-) -> Taken
+) -> Result<(), Fault>
     requires body { Body 79 currency body.now }
     requires flow_parts { FlowParts section.old sizes.old }
     ensures { TakesFlows (decode_term_deposit currencies body.now) section sizes result }
 {
     match decode_term_deposit(currency, body) {
-        DecodedTermDeposit::Refused(fault) => Taken::Refused(fault),
+        DecodedTermDeposit::Refused(fault) => Err(fault),
         DecodedTermDeposit::Is(deposit) => {
             // Which of the three rates each scenario has (001, table 6).
             let which = [0usize, 2, 1, 1, 2, 2, 1];

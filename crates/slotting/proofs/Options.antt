@@ -8,7 +8,7 @@ use lib.IntN.{ℤ, pos, nat_abs, ◌+ℤ◌}
 use lib.ListN.{get_or, get_or-eq_default}
 use mir.Facts.{to_z-of_z}
 use mir.Syntax.{w64}
-use mir.Val.{to_z, of_z}
+use mir.Val.{to_z, of_z, SFits}
 use Rattle.laws.specs.Lists.{tabulate}
 use Rattle.laws.proofs.Widths.{sfits-abs}
 use Rattle.laws.proofs.Joins.{joined-ext}
@@ -19,7 +19,8 @@ use Rattle.paper.specs.Records.{option}
 use Rattle.paper.specs.Flow.{sided, adds}
 use Rattle.paper.specs.Sound.{Listed, Small}
 use Rattle.arrays.specs.Slots.{plus_ℤ, with_add_ons}
-use Rattle.posting.specs.Parts.{AtMostℤ}
+use Rattle.posting.specs.Parts.{AtMostℤ, trillion}
+use Rattle.posting.proofs.Sides.{sum_fits}
 use Rattle.paper.proofs.Magnitudes.{abs-sided}
 use Rattle.arrays.specs.Slots.{option_magnitude}
 
@@ -34,10 +35,26 @@ pub values-back : (values : List ℤ) → AtMostℤ billion values → map (λ z
 values-back [] h = refl
 values-back (z ∷ values) h = ap₂ ◌∷◌ (to_z-of_z {w = w64} (sfits-abs z (omega (arith, h 0)))) (values-back values (λ j. h (suc j)))
 
--- the magnitudes of values that came back from their bits
-pub magnitudes-back : (values : List ℤ) (more : List ℕ) → AtMostℤ billion values
-    → more ≡ tabulate (λ j. nat_abs (get_or (map (λ z. to_z w64 (of_z w64 z)) values) j (pos 0))) 6 → more ≡ tabulate (λ j. nat_abs (get_or values j (pos 0))) 6
-magnitudes-back values more h e = e ∙ ap (λ (l : List ℤ). tabulate (λ j. nat_abs (get_or l j (pos 0))) 6) (values-back values h)
+-- ---- a value added to an add-on, both read back from their bits
+
+module _ (z x value : ℤ) (side : ℕ) (z-small : nat_abs z ≤ billion) (x-small : nat_abs x ≤ billion) (e : value ≡ sided side (to_z w64 (of_z w64 x))) where
+  back : (y : ℤ) → nat_abs y ≤ trillion → to_z w64 (of_z w64 y) ≡ y
+  back y h = to_z-of_z {w = w64} (sfits-abs y (omega (arith, h)))
+
+  value-is : value ≡ sided side x
+  value-is = e ∙ ap (sided side) (back x (omega (arith, x-small)))
+
+  small : nat_abs value ≤ trillion
+  small = rw (value-is, abs-sided side x) (omega (arith, x-small))
+
+  same : to_z w64 (of_z w64 z) +ℤ to_z w64 (of_z w64 value) ≡ z +ℤ value
+  same = ap₂ ◌+ℤ◌ (back z (omega (arith, z-small))) (back value small)
+
+  pub added_fits : SFits w64 (to_z w64 (of_z w64 z) +ℤ to_z w64 (of_z w64 value))
+  added_fits = rw same (sum_fits z value (omega (arith, z-small)) small)
+
+  pub added : to_z w64 (of_z w64 (to_z w64 (of_z w64 z) +ℤ to_z w64 (of_z w64 value))) ≡ z +ℤ sided side x
+  added = to_z-of_z {w = w64} added_fits ∙ same ∙ ap (λ (y : ℤ). z +ℤ y) value-is
 
 module _ (c side : ℕ) (values : List ℤ) where
   adds-is : (j : ℕ) → adds (option c side values) (suc j) ≡ sided side (get_or values j (pos 0))

@@ -26,8 +26,8 @@ use Rattle.arrays.specs.Slots.{with_rates}
 use Rattle.curve.specs.Shocked.{curve_of, shocked_section}
 use Rattle.fields.specs.Answers.{rate_of, rates_from, good_rates, rates_set}
 use Rattle.fields.proofs.FieldLaws.{each-accepts}
-use Rattle.posting.specs.declared.Taken.{Taken}
-use Rattle.posting.specs.declared.Taken.TheVariants.{Done, Refused}
+use Rattle.std.specs.Prelude.{Ok, Err}
+use Rattle.posting.specs.Parts.{Taken}
 use Rattle.posting.specs.Answers.{CurveTaken}
 use Rattle.record.specs.declared.curves.Curve.{Curve as FieldsOfCurve}
 use Rattle.record.specs.declared.curves.DecodedCurve.{DecodedCurve}
@@ -87,10 +87,10 @@ section-is c z =
     ∙ tabulate-ext _ rate section_size (λ j l. ap (λ (x : ℤ). x +ℤ rate j) (get_or-replicate section_size j (pos 0) (pos 0) l) ∙ +ℤ_idl (rate j))
 
 pub curve-taken : (c : ℕ) (z : Curve) {read : Checked Record} {rates rates' : List ℤ} → read ≡ accepted (curve c z) → rates ≡ replicate section_size (pos 0)
-    → rates' ≡ shocked_section z → CurveTaken read rates Done rates'
+    → rates' ≡ shocked_section z → CurveTaken read rates (Ok tt) rates'
 curve-taken c z accepts bare filled = rw accepts (record { answered = refl; filled = filled ∙ sym (ap (with_rates (curve c z)) bare ∙ section-is c z) })
 
-pub curve-refused : {read : Checked Record} (f : Fault) → read ≡ refused f.cause f.place → (rates : List ℤ) → CurveTaken read rates (Refused f) rates
+pub curve-refused : {read : Checked Record} (f : Fault) → read ≡ refused f.cause f.place → (rates : List ℤ) → CurveTaken read rates (Err f) rates
 curve-refused f e rates = rw e (record { answered = refl; filled = refl })
 
 pub taken_as : {read means : Checked Record} {rates rates' : List ℤ} {answer : Taken} → read ≡ means → CurveTaken read rates answer rates' → CurveTaken means rates answer rates'

@@ -6,16 +6,21 @@ ghost use Rattle.posting.specs.Parts.{FlowParts};
 ghost use Rattle.posting.specs.Answers.{TakesFlows};
 
 use due::schedule::{Schedule, slot_schedule};
-use posting::Taken;
+use paper::Fault;
 use record::coupons::{DecodedCoupons, decode_coupons};
 
-pub fn take_coupons(currency: u32, body: &[u8], section: &mut [i64], sizes: &mut [u64]) -> Taken
+pub fn take_coupons(
+    currency: u32,
+    body: &[u8],
+    section: &mut [i64],
+    sizes: &mut [u64],
+) -> Result<(), Fault>
     requires body { Body 13 currency body.now }
     requires flow_parts { FlowParts section.old sizes.old }
     ensures { TakesFlows (decode_coupons currencies body.now) section sizes result }
 {
     match decode_coupons(currency, body) {
-        DecodedCoupons::Refused(fault) => Taken::Refused(fault),
+        DecodedCoupons::Refused(fault) => Err(fault),
         DecodedCoupons::Is(bond) => {
             let coupon = bond.coupon;
             let principal = bond.principal;

@@ -9,29 +9,33 @@ ghost use Rattle.slotting.specs.Parts.{RateParts, Enterable};
 
 use curve::fill_section;
 use fields::rates::rates_at;
-use paper::BUCKETS;
-use posting::Taken;
+use paper::{BUCKETS, Fault};
 use record::curves::{DecodedCurve, decode_curve, decode_listed_curve};
 
 // The rates begin at `from` in the body.
-fn enter_curve(decoded: DecodedCurve, body: &[u8], from: usize, rates: &mut [i32]) -> Taken
+fn enter_curve(
+    decoded: DecodedCurve,
+    body: &[u8],
+    from: usize,
+    rates: &mut [i32],
+) -> Result<(), Fault>
     requires from_in_bounds { from + 76 ≤ length body.now }
     requires rates_len { length rates.old ≡ section_size }
     requires enterable { Enterable decoded body.now from rates.old }
     ensures { CurveTaken (curve_read body.now from decoded) rates.old result rates.new }
 {
     match decoded {
-        DecodedCurve::Refused(fault) => Taken::Refused(fault),
+        DecodedCurve::Refused(fault) => Err(fault),
         DecodedCurve::Is(curve) => {
             let mut base = [0i64; BUCKETS];
             rates_at(body, from, &mut base);
             fill_section(&base, curve.shocks, rates);
-            Taken::Done
+            Ok(())
         }
     }
 }
 
-pub fn take_curve(currency: u32, curved: bool, body: &[u8], rates: &mut [i32]) -> Taken
+pub fn take_curve(currency: u32, curved: bool, body: &[u8], rates: &mut [i32]) -> Result<(), Fault>
     requires body { Body 83 currency body.now }
     requires rate_parts { RateParts curved rates.old }
     ensures { CurveTaken (decode_curve currencies (λ _. curved) body.now) rates.old result rates.new }
@@ -39,7 +43,12 @@ pub fn take_curve(currency: u32, curved: bool, body: &[u8], rates: &mut [i32]) -
     enter_curve(decode_curve(currency, curved, body), body, 1, rates)
 }
 
-pub fn take_listed_curve(currency: u32, curved: bool, body: &[u8], rates: &mut [i32]) -> Taken
+pub fn take_listed_curve(
+    currency: u32,
+    curved: bool,
+    body: &[u8],
+    rates: &mut [i32],
+) -> Result<(), Fault>
     requires body { Body 81 currency body.now }
     requires rate_parts { RateParts curved rates.old }
     ensures { CurveTaken (decode_listed_curve currencies (λ _. curved) body.now) rates.old result rates.new }

@@ -6,17 +6,22 @@ ghost use Rattle.posting.specs.Parts.{FlowParts};
 ghost use Rattle.posting.specs.Answers.{TakesFlows};
 
 use due::amount::slot_due;
-use posting::Taken;
+use paper::Fault;
 use record::floating::{DecodedFloating, decode_floating};
 use scales::Thousands;
 
-pub fn take_floating(currency: u32, body: &[u8], section: &mut [i64], sizes: &mut [u64]) -> Taken
+pub fn take_floating(
+    currency: u32,
+    body: &[u8],
+    section: &mut [i64],
+    sizes: &mut [u64],
+) -> Result<(), Fault>
     requires body { Body 13 currency body.now }
     requires flow_parts { FlowParts section.old sizes.old }
     ensures { TakesFlows (decode_floating currencies body.now) section sizes result }
 {
     match decode_floating(currency, body) {
-        DecodedFloating::Refused(fault) => Taken::Refused(fault),
+        DecodedFloating::Refused(fault) => Err(fault),
         DecodedFloating::Is(position) => slot_due(
             position.side,
             position.months,

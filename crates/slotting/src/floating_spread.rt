@@ -6,7 +6,7 @@ ghost use Rattle.posting.specs.Parts.{FlowParts};
 ghost use Rattle.posting.specs.Answers.{TakesFlows};
 
 use due::schedule::{Schedule, slot_schedule};
-use posting::Taken;
+use paper::Fault;
 use record::floating_spread::{DecodedFloatingSpread, decode_floating_spread};
 use scales::Thousands;
 
@@ -15,13 +15,13 @@ pub fn take_floating_spread(
     body: &[u8],
     section: &mut [i64],
     sizes: &mut [u64],
-) -> Taken
+) -> Result<(), Fault>
     requires body { Body 20 currency body.now }
     requires flow_parts { FlowParts section.old sizes.old }
     ensures { TakesFlows (decode_floating_spread currencies body.now) section sizes result }
 {
     match decode_floating_spread(currency, body) {
-        DecodedFloatingSpread::Refused(fault) => Taken::Refused(fault),
+        DecodedFloatingSpread::Refused(fault) => Err(fault),
         DecodedFloatingSpread::Is(position) => {
             let floating = position.floating;
             let spread = position.spread;

@@ -6,16 +6,21 @@ ghost use Rattle.posting.specs.Parts.{FlowParts};
 ghost use Rattle.posting.specs.Answers.{TakesFlows};
 
 use due::amount::slot_due;
-use posting::Taken;
+use paper::Fault;
 use record::single::{DecodedSingle, decode_single};
 
-pub fn take_single(currency: u32, body: &[u8], section: &mut [i64], sizes: &mut [u64]) -> Taken
+pub fn take_single(
+    currency: u32,
+    body: &[u8],
+    section: &mut [i64],
+    sizes: &mut [u64],
+) -> Result<(), Fault>
     requires body { Body 9 currency body.now }
     requires flow_parts { FlowParts section.old sizes.old }
     ensures { TakesFlows (decode_single currencies body.now) section sizes result }
 {
     match decode_single(currency, body) {
-        DecodedSingle::Refused(fault) => Taken::Refused(fault),
+        DecodedSingle::Refused(fault) => Err(fault),
         DecodedSingle::Is(flow) => slot_due(
             flow.side,
             flow.months,

@@ -2,7 +2,7 @@
 use Prim.Native.Nat.{ℕ}
 use mathlib.Core.Bool.{false}
 use mathlib.Core.List.{List}
-use mathlib.Core.Path.{◌≡◌, refl, sym, ap, subst, ◌∙◌}
+use mathlib.Core.Path.{◌≡◌, sym, ap, subst, ◌∙◌}
 use Rattle.paper.specs.Refusals.{accepted}
 use Rattle.paper.specs.Records.{option, currencies}
 use Rattle.paper.specs.Scales.{billion}
@@ -39,7 +39,7 @@ decode_option-requires c = c.requires.body
 
 pub slot_values-requires : goal.slot_values-requires
 slot_values-requires c =
-    record { values_len = (refl, subst (AtMostℤ billion) (sym (values-back (values_of (fields (goal.at.slot_values-requires c).In-Is)) (small (goal.at.slot_values-requires c).In-Is))) (small (goal.at.slot_values-requires c).In-Is)); option_parts = c.requires.option_parts }
+    record { values_bound = subst (AtMostℤ billion) (sym (values-back (values_of (fields (goal.at.slot_values-requires c).In-Is)) (small (goal.at.slot_values-requires c).In-Is))) (small (goal.at.slot_values-requires c).In-Is); option_parts = c.requires.option_parts }
 
 pub returns-in-Refused : goal.returns-in-Refused
 unfolding option_read
