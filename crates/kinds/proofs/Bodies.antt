@@ -9,7 +9,7 @@ use Rattle.laws.proofs.Joins.{joined-none}
 use Rattle.paper.specs.declared.Refusal.TheVariants.{UnknownKind, OverLimit}
 use Rattle.paper.specs.Ladder.{buckets}
 use Rattle.paper.specs.Flow.{flow, adds, gives, magnitude}
-use Rattle.paper.specs.Refusals.{Checked, accepted, refused, ◌>>=◌, unless}
+use Rattle.paper.specs.Refusals.{Checked, accepted, refused, ◌>>=◌, unless, fault}
 use Rattle.paper.specs.Records.{Record, body_length, currencies}
 use Rattle.paper.specs.Ledger.{SoFar}
 use Rattle.paper.specs.TurnedDown.{over_limit}
@@ -24,9 +24,8 @@ use Rattle.arrays.proofs.Agree.{bind-ext}
 use Rattle.arrays.proofs.More.{same-arrays}
 use Rattle.arrays.proofs.Limit.{no-magnitude, flows-limit, options-limit, curve-limit}
 use Rattle.record.specs.Answers.{Body}
-use Rattle.posting.specs.declared.Taken.{Taken}
-use Rattle.posting.specs.declared.Taken.TheVariants.{Refused}
-use Rattle.posting.specs.Parts.{FlowParts}
+use Rattle.std.specs.Prelude.{Err}
+use Rattle.posting.specs.Parts.{Taken, FlowParts}
 use Rattle.slotting.specs.Parts.{OptionParts, RateParts}
 use Rattle.posting.specs.Answers.{into, flows_fit, FlowsTaken, options_fit, OptionTaken, CurveTaken}
 use Rattle.kinds.specs.Bodies.{BodyTaken}
@@ -151,6 +150,6 @@ module _ {has : Bool} {p : Arrays} (h : PartsHold has p) where
 
 -- no such kind
 pub unknown-body : (has : Bool) (p : Arrays) (kind : ℕ) (body : List ℕ) → NoneOf kind
-    → BodyTaken (admitted currencies (so_far_in has p.sizes p.option_sizes) kind body) p (Refused (record { cause = UnknownKind; place = 0 })) p
+    → BodyTaken (admitted currencies (so_far_in has p.sizes p.option_sizes) kind body) p (Err (fault UnknownKind 0)) p
 unfolding admitted ◌>>=◌
 unknown-body has p kind body f = rw (none-decoded currencies (λ _. has) kind body f) (record { answered = refl; parts = refl })

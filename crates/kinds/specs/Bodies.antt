@@ -5,7 +5,7 @@ use Rattle.paper.specs.Records.{Record, currencies}
 use Rattle.paper.specs.Book.{admitted}
 use Rattle.arrays.specs.Rooms.{so_far_in}
 use Rattle.arrays.specs.Arrays.{Arrays, in_parts}
-use Rattle.posting.specs.declared.Taken.{Taken}
+use Rattle.posting.specs.Parts.{Taken}
 use Rattle.posting.specs.Answers.{taken_of, into}
 
 pub record BodyTaken (read : Checked Record) (p : Arrays) (answer : Taken) (p' : Arrays) : Type 0 where

@@ -12,7 +12,6 @@ use paper::{Fault, Refusal};
 use portfolio::deposit::take_deposit;
 use portfolio::loan::take_loan;
 use portfolio::term_deposit::take_term_deposit;
-use posting::Taken;
 use slotting::coupons::take_coupons;
 use slotting::curves::{take_curve, take_listed_curve};
 use slotting::floating::take_floating;
@@ -50,7 +49,7 @@ pub fn take_body(
     addons: &mut [i64],
     sizes: &mut [u64],
     options: &mut [u64],
-) -> Taken
+) -> Result<(), Fault>
     requires body { Body (body_length kind) currency body.now }
     requires parts_hold { PartsHold curved (lent section rates addons sizes options) }
     ensures { TakesBody curved kind body.now (before section rates addons sizes options) result (after section rates addons sizes options) }
@@ -66,7 +65,7 @@ pub fn take_body(
         8 => take_curve(currency, curved, body, rates),
         9 => take_floating_spread(currency, body, section, sizes),
         10 => take_listed_curve(currency, curved, body, rates),
-        _ => Taken::Refused(Fault {
+        _ => Err(Fault {
             cause: Refusal::UnknownKind,
             place: 0,
         }),

@@ -19,7 +19,7 @@ use Rattle.arrays.specs.Rooms.{so_far_by, so_far_in}
 use Rattle.arrays.specs.Arrays.{Arrays, arrays_as, part_of, parts_of, with_parts, in_parts, with_record, PartsHold}
 use Rattle.arrays.proofs.Agree.{admitted-agrees, parts-agree}
 use Rattle.arrays.proofs.More.{same-arrays}
-use Rattle.posting.specs.declared.Taken.{Taken}
+use Rattle.posting.specs.Parts.{Taken}
 use Rattle.posting.specs.Answers.{into}
 use Rattle.kinds.specs.Bodies.{BodyTaken}
 use Rattle.lending.specs.Records.{RecordTaken}

@@ -6,7 +6,7 @@ use Rattle.paper.specs.Ledger.{SoFar}
 use Rattle.paper.specs.Book.{admitted}
 use Rattle.arrays.specs.Rooms.{so_far_by}
 use Rattle.arrays.specs.Arrays.{Arrays, with_record}
-use Rattle.posting.specs.declared.Taken.{Taken}
+use Rattle.posting.specs.Parts.{Taken}
 use Rattle.posting.specs.Answers.{taken_of, into}
 
 pub record RecordTaken (read : Checked Record) (a : Arrays) (answer : Taken) (a' : Arrays) : Type 0 where

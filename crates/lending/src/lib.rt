@@ -10,8 +10,7 @@ ghost use Rattle.lending.specs.Records.{TakesRecord};
 
 use arrays::masks::has_curve;
 use kinds::take_body;
-use paper::{SCENARIOS, SECTION, SHOCKED};
-use posting::Taken;
+use paper::{Fault, SCENARIOS, SECTION, SHOCKED};
 
 pub fn take_parts(
     kind: u8,
@@ -23,7 +22,7 @@ pub fn take_parts(
     addons: &mut [i64],
     sizes: &mut [u64],
     options: &mut [u64],
-) -> Taken
+) -> Result<(), Fault>
     requires body { Body (body_length kind) currency body.now × (1 ≤ currency) × (currency ≤ currencies) }
     requires holding { Holding (record { used = 0; curved = curved }) (lent ledger rates addons sizes options) }
     ensures { TakesRecord curved kind body.now (before ledger rates addons sizes options) result (after ledger rates addons sizes options) }
