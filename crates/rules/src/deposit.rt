@@ -7,7 +7,6 @@ ghost use Rattle.fields.specs.Answers.{amounts_from};
 
 use fields::bytes::money_at;
 use ladder::midpoints;
-use paper::BUCKETS;
 use scales::Thousands;
 
 // The cap of categories 1, 2, 3.
@@ -42,12 +41,9 @@ pub fn weighed_core(body: &[u8]) -> u64
     requires { length body.now ≡ 82 }
     ensures { result ≡ weighed_core (amounts_from body.now 6) }
 {
-    let middles = midpoints();
-    let mut weighed: u64 = 0;
-    let mut k: usize = 0;
-    while k < BUCKETS {
-        weighed += money_at(body, 6 + 4 * k).0 * (middles[k] as u64);
-        k += 1;
+    let mut weighed = 0;
+    for (k, middle) in midpoints().iter().enumerate() {
+        weighed += money_at(body, 6 + 4 * k).0 * u64::from(*middle);
     }
     weighed
 }

@@ -8,24 +8,22 @@ use Rattle.rules.proofs.LoanLaws.{passed_none, passed-covers, passed-more, passe
 use Rattle.rules.proofs.loan.interest_alone.Goals as goal
 
 pub loop-k-init : goal.loop-k-init
-loop-k-init c =
-    (omega arith, passed_none _ _ c.requires.principal_value)
+loop-k-init c = passed_none _ _ c.requires.principal_value
 
 pub returns-then-alone : goal.returns-then-alone
 returns-then-alone c =
     let test = sym (c.alone.ensures ∙ ap (λ (x : ℕ). 0 below x && c.loop-k.scheduled.0 is 0) c.money_at-interest.ensures.0) ∙ c.if-alone.true in
-    sym (passed-stops _ _ _ c.loop-k-test.true c.loop-k.invariant.1 test)
+    (passed-stops _ _ _ c.loop-k-test.true c.loop-k.invariant test, c.loop-k-test.true)
 
 pub overflow_sub-scheduled : goal.overflow_sub-scheduled
-overflow_sub-scheduled c =
-    rw c.money_at.ensures.0 (passed-covers _ _ _ c.loop-k-test.true c.loop-k.invariant.1)
+overflow_sub-scheduled c = rw c.money_at.ensures.0 (passed-covers _ _ _ c.loop-k-test.true c.loop-k.invariant)
 
 pub loop-k-preserved : goal.loop-k-preserved
 loop-k-preserved c =
     let test = sym (c.alone.ensures ∙ ap (λ (x : ℕ). 0 below x && c.loop-k.scheduled.0 is 0) c.money_at-interest.ensures.0) ∙ c.if-alone.false in
-    (omega arith, rw c.money_at.ensures.0 (passed-more _ _ _ c.loop-k-test.true c.loop-k.invariant.1 test))
+    rw c.money_at.ensures.0 (passed-more _ _ _ c.loop-k-test.true c.loop-k.invariant test)
 
 pub returns : goal.returns
 returns c =
     let e : c.loop-k.k ≡ 19 = omega arith in
-    sym (passed-ends _ _ (rw e at c.loop-k.invariant.1))
+    passed-ends _ _ (rw e at c.loop-k.invariant)
