@@ -1,9 +1,7 @@
 // Kind 7, an option add-on: currency, side (1 sold, 2 bought), six signed values, one for each scenario.
 ghost use Rattle.std.specs.Prelude.{◌≡◌};
-ghost use Rattle.paper.specs.Refusals.{accepted};
 ghost use Rattle.paper.specs.Refusals.{checked_as};
 ghost use Rattle.paper.specs.Records.{option, currencies};
-ghost use Rattle.paper.specs.Fields.{side_at};
 ghost use Rattle.paper.specs.Decode.{decode_option};
 ghost use Rattle.record.specs.Answers.{Body, values_of};
 
@@ -24,11 +22,11 @@ pub struct OptionAddOn {
     pub short_down: SignedThousands,
 }
 
-// The six values, once the side is read.
-fn decode_values(currency: u32, side: u32, body: &[u8]) -> Result<OptionAddOn, Fault>
-    requires { Body 26 currency body.now × (side_at body.now 1 ≡ accepted side) }
+pub fn decode_option(currency: u32, body: &[u8]) -> Result<OptionAddOn, Fault>
+    requires { Body 26 currency body.now }
     ensures { checked_as (λ s. option s.currency s.side (values_of s)) result ≡ decode_option currencies body.now }
 {
+    let side = side_at(body, 1)?;
     let up = option_at(body, 2)?;
     let down = option_at(body, 6)?;
     let steepener = option_at(body, 10)?;
@@ -45,12 +43,4 @@ fn decode_values(currency: u32, side: u32, body: &[u8]) -> Result<OptionAddOn, F
         short_up,
         short_down,
     })
-}
-
-pub fn decode_option(currency: u32, body: &[u8]) -> Result<OptionAddOn, Fault>
-    requires { Body 26 currency body.now }
-    ensures { checked_as (λ s. option s.currency s.side (values_of s)) result ≡ decode_option currencies body.now }
-{
-    let side = side_at(body, 1)?;
-    decode_values(currency, side, body)
 }

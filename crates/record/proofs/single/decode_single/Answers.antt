@@ -1,5 +1,4 @@
 -- `decode_single` meets its contract, field by field: those before a field are read, and it is refused or read.
-use mathlib.Core.Path.{◌≡◌}
 use Rattle.paper.specs.Refusals.{◌>>=◌, checked_as}
 use Rattle.paper.specs.Decode.{decode_single}
 use Rattle.fields.specs.Answers.{as_it_is, thousands}

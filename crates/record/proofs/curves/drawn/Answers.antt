@@ -1,0 +1,18 @@
+-- `drawn` meets its contract: the first bucket with a shocked rate out of range is told, or there is none.
+use Prim.Native.Nat.{ℕ}
+use mathlib.Core.Path.{ap}
+use native.Mathlib.Omega.{arith}
+use borrow.Author.Tests.{lt-ltb, le-ltb}
+use Rattle.std.specs.Prelude.{Err}
+use Rattle.paper.specs.declared.Refusal.TheVariants.{OutOfRange}
+use Rattle.paper.specs.Refusals.{◌>>◌, unless, fault}
+use Rattle.record.proofs.curves.drawn.Goals as goal
+
+pub returns-then-shocked-lt-BUCKETS : goal.returns-then-shocked-lt-BUCKETS
+unfolding unless ◌>>◌
+returns-then-shocked-lt-BUCKETS c =
+    rw (← c.first_out_of_range-shocked.ensures, lt-ltb _ _ c.if-shocked-lt-BUCKETS.true) (ap (λ (p : ℕ). Err (fault OutOfRange p)) (omega arith))
+
+pub returns : goal.returns
+unfolding unless ◌>>◌
+returns c = rw (← c.first_out_of_range-shocked.ensures, le-ltb _ _ c.if-shocked-lt-BUCKETS.false)
