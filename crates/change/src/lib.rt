@@ -5,18 +5,17 @@
 ghost use Rattle.std.specs.Prelude.{◌≡◌, [], ℕ, ◌+◌, ◌*◌, ◌<◌, ◌≤◌, nat_abs, length};
 ghost use Rattle.laws.specs.Nearest.{nearest_ℤ};
 ghost use Rattle.paper.specs.Scales.{billion};
-ghost use Rattle.paper.specs.Ladder as Ladder;
 ghost use Rattle.paper.specs.Records.{currencies};
 ghost use Rattle.paper.specs.Flow.{scenarios, shocked};
 ghost use Rattle.paper.specs.Ledger.{section_size};
 ghost use Rattle.paper.specs.Change.{value, net_size, tolerance_of};
-ghost use Rattle.factor.specs.Table.{rows};
 ghost use Rattle.arrays.specs.Rooms.{totals_by};
 ghost use Rattle.change.specs.Lengths.{FiguresLengths, CurrencyLengths};
 ghost use Rattle.change.specs.Bounds.{BoundedRow, Bounded};
 ghost use Rattle.change.specs.Figures.{own_changes, own_tolerances, with_changes, with_tolerances};
 
-use ladder::Exponent;
+use factor::factor;
+use ladder::{Exponent, midpoints};
 use paper::{BUCKETS, SECTION, SHOCKED};
 use scales::{Millionths, SignedThousands, TenThousandthYears, Thousands};
 use signed::rounded;
@@ -30,7 +29,7 @@ fn net_size(cells: &[i64], scenario: usize) -> Thousands
     let start = BUCKETS * scenario;
     let mut size = Thousands(0);
     for k in 0..BUCKETS {
-        size.0 += magnitude(cells[start + k]);
+        size.0 += cells[start + k].unsigned_abs();
     }
     size
 }
@@ -48,24 +47,17 @@ fn tolerance_of(size: Thousands) -> Thousands
 }
 
 // The sum of flow times factor, in billionths.
-fn value_of(
-    cells: &[i64],
-    rates: &[i32],
-    scenario: usize,
-    midpoints: &[u32],
-    table: &[[u64; 10]; 6],
-) -> i64
+fn value_of(cells: &[i64], rates: &[i32], scenario: usize) -> i64
     requires cells_len { (length cells.now ≡ section_size) × (length rates.now ≡ section_size) × (scenario < scenarios) }
     requires bounded_row { BoundedRow (totals_by cells.now [] rates.now) 1 scenario }
-    requires midpoints_value { (midpoints.now ≡ Ladder.midpoints) × (table.now ≡ rows) }
     ensures { result ≡ value (totals_by cells.now [] rates.now) 1 scenario }
 {
     let start = BUCKETS * scenario;
-    let mut sum: i64 = 0;
-    for k in 0..BUCKETS {
+    let mut sum = 0;
+    for (k, midpoint) in midpoints().iter().enumerate() {
         let rate = Millionths(rates[start + k] as i64);
-        let exponent = Exponent::of(rate, TenThousandthYears::from(midpoints[k]));
-        sum += cells[start + k] * (factor::factor(table, exponent) as i64);
+        let exponent = Exponent::of(rate, TenThousandthYears::from(*midpoint));
+        sum += cells[start + k] * (factor(exponent) as i64);
     }
     sum
 }
@@ -78,23 +70,15 @@ fn in_thousands(billionths: i64) -> SignedThousands
 }
 
 // The six changes.
-fn fill_changes(
-    cells: &[i64],
-    rates: &[i32],
-    add_ons: &[i64],
-    midpoints: &[u32],
-    table: &[[u64; 10]; 6],
-    changes: &mut [i64],
-)
+fn fill_changes(cells: &[i64], rates: &[i32], add_ons: &[i64], changes: &mut [i64])
     requires currency_lengths { CurrencyLengths cells.now rates.now add_ons.now changes.old }
     requires bounded { Bounded (totals_by cells.now add_ons.now rates.now) 1 }
-    requires midpoints_value { (midpoints.now ≡ Ladder.midpoints) × (table.now ≡ rows) }
     ensures { changes.new ≡ own_changes cells.now add_ons.now rates.now }
 {
-    let base = value_of(cells, rates, 0, midpoints, table);
-    for i in 0..SHOCKED {
-        let value = value_of(cells, rates, i + 1, midpoints, table);
-        changes[i] = in_thousands(base - value).0 + add_ons[i];
+    let base = value_of(cells, rates, 0);
+    for (i, change) in changes.iter_mut().enumerate() {
+        let value = value_of(cells, rates, i + 1);
+        *change = in_thousands(base - value).0 + add_ons[i];
     }
 }
 
@@ -105,9 +89,9 @@ pub fn fill_tolerances(cells: &[i64], tolerances: &mut [i64])
     ensures { tolerances.new ≡ own_tolerances cells.now }
 {
     let base = net_size(cells, 0);
-    for i in 0..SHOCKED {
+    for (i, tolerance) in tolerances.iter_mut().enumerate() {
         let size = Thousands(base.0 + net_size(cells, i + 1).0);
-        tolerances[i] = tolerance_of(size).0 as i64;
+        *tolerance = tolerance_of(size).0 as i64;
     }
 }
 
@@ -117,15 +101,12 @@ pub fn fill_currency(
     rates: &[i32],
     add_ons: &[i64],
     c: usize,
-    midpoints: &[u32],
-    table: &[[u64; 10]; 6],
     changes: &mut [i64],
     tolerances: &mut [i64],
 )
     requires figures_lengths { FiguresLengths ledger.now rates.now add_ons.now changes.old tolerances.old }
     requires c_lt_currencies { c < currencies }
     requires bounded { Bounded (totals_by ledger.now add_ons.now rates.now) (c + 1) }
-    requires midpoints_value { (midpoints.now ≡ Ladder.midpoints) × (table.now ≡ rows) }
     ensures changes_after { changes.new ≡ with_changes ledger.now add_ons.now rates.now c changes.old }
     ensures tolerances_after { tolerances.new ≡ with_tolerances ledger.now add_ons.now rates.now c tolerances.old }
 {
@@ -137,8 +118,6 @@ pub fn fill_currency(
         &ledger[start..end],
         &rates[start..end],
         &add_ons[six..next],
-        midpoints,
-        table,
         &mut changes[six..next],
     );
     fill_tolerances(&ledger[start..end], &mut tolerances[six..next]);

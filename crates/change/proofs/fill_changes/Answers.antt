@@ -78,9 +78,9 @@ in_thousands-requires c =
     let a = (goal.at.in_thousands-requires c).After-value_of-value in
     rw (difference-is a, to_z-of_z (fits a)) (difference-most (totals a) 1 c.requires.bounded (c.loop-i.i + 1) (omega arith) (omega arith))
 
-pub overflow_add-changes : goal.overflow_add-changes
-overflow_add-changes c =
-    let a = (goal.at.overflow_add-changes c).After-value_of-value in
+pub overflow_add-change : goal.overflow_add-change
+overflow_add-change c =
+    let a = (goal.at.overflow_add-change c).After-value_of-value in
     rw (change-is (totals a) (c.loop-i.i + 1) (difference-is a) (fits a) (omega arith) c.in_thousands.ensures (omega arith) (part-add_on c.args.add_ons.now c.loop-i.i)) (held a)
 
 pub loop-i-preserved : goal.loop-i-preserved
@@ -88,7 +88,7 @@ loop-i-preserved c =
     let at = c.loop-i in
     let a = (goal.at.loop-i-preserved c).After-value_of-value in
     let is = change-is (totals a) (at.i + 1) (difference-is a) (fits a) (omega arith) c.in_thousands.ensures (omega arith) (part-add_on c.args.add_ons.now at.i) in
-    (search rules, search rules, filled_next (pos 0) _ at.changes at.i _ at.invariant.2 (ap (λ (z : ℤ). to_z w64 (of_z w64 z)) is ∙ to_z-of_z (held a)) (search rules))
+    filled_next (pos 0) _ at.changes at.i _ at.invariant (ap (λ (z : ℤ). to_z w64 (of_z w64 z)) is ∙ to_z-of_z (held a)) (search rules)
 
 pub returns : goal.returns
-returns c = let at = c.loop-i in filled-from (pos 0) _ 1 at.changes shocked at.invariant.1 (λ j o. at.invariant.2 j (omega arith))
+returns c = let at = c.loop-i in filled-from (pos 0) _ 1 at.changes shocked (omega arith) (λ j o. at.invariant j (omega arith))

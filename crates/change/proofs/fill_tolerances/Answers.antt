@@ -30,15 +30,15 @@ module _ (c : After-tolerance_of) where
   fits =
       record { sfits = omega (arith, tolerance-is, tolerance-most t 1 (c.loop-i.i + 1) (c.requires.by_index 0 (omega arith)) (c.requires.by_index (c.loop-i.i + 1) (omega arith))) }
 
-pub overflow_cast-tolerances : goal.overflow_cast-tolerances
-overflow_cast-tolerances c = fits (goal.at.overflow_cast-tolerances c).After-tolerance_of
+pub overflow_cast-tolerance : goal.overflow_cast-tolerance
+overflow_cast-tolerance c = fits (goal.at.overflow_cast-tolerance c).After-tolerance_of
 
 pub loop-i-preserved : goal.loop-i-preserved
 loop-i-preserved c =
     let at = c.loop-i in
     let a = (goal.at.loop-i-preserved c).After-tolerance_of in
     let is = to_z_pos w64 {n = c.tolerance_of.result.0} (fits a).sfits ∙ ap pos (tolerance-is a) in
-    (search rules, search rules, filled_next (pos 0) _ at.tolerances at.i _ at.invariant.2 is (search rules))
+    filled_next (pos 0) _ at.tolerances at.i _ at.invariant is (search rules)
 
 pub returns : goal.returns
-returns c = let at = c.loop-i in filled-from (pos 0) _ 1 at.tolerances shocked at.invariant.1 (λ j o. at.invariant.2 j (omega arith))
+returns c = let at = c.loop-i in filled-from (pos 0) _ 1 at.tolerances shocked (omega arith) (λ j o. at.invariant j (omega arith))

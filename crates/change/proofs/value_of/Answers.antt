@@ -4,7 +4,7 @@ use mathlib.Core.List.{List, []}
 use mathlib.Core.Path.{◌≡◌, refl, sym, ap, ap₂, ◌∙◌}
 use native.Mathlib.Omega.{arith}
 use lib.IntN.{ℤ, pos, ◌+ℤ◌, ◌*ℤ◌}
-use lib.ListN.{length, get_or}
+use lib.ListN.{get_or}
 use lib.Signed.{mag}
 use mir.Syntax.{Width, w32, w64}
 use mir.Val.{SFits, hbits, to_z, of_z}
@@ -12,7 +12,7 @@ use mir.Facts.{to_z-of_z, to_z_pos}
 use Rattle.laws.specs.Sums.{sum_ℤ}
 use Rattle.laws.proofs.Widths.{back}
 use Rattle.laws.proofs.Sums.{sum_ℤ-more}
-use Rattle.paper.specs.Ladder.{buckets, midpoints}
+use Rattle.paper.specs.Ladder.{buckets}
 use Rattle.paper.specs.Factor.{low_start, factor}
 use Rattle.paper.specs.Ledger.{Totals}
 use Rattle.paper.specs.Change.{value, exponent}
@@ -20,7 +20,7 @@ use Rattle.arrays.specs.Rooms.{cell_by, totals_by}
 use Rattle.change.proofs.CurrencyParts.{part-cell}
 use Rattle.change.proofs.Bounds.{weighed, weighed-fits, weighed-sum-fits}
 use Rattle.change.proofs.value_of.Goals as goal
-use Rattle.change.proofs.value_of.Goals.{After-factor, After-of}
+use Rattle.change.proofs.value_of.Goals.{After-factor, After-from}
 
 -- an element of this turn that was read, of the cells or of the rates
 module _ (i k : ℕ) where
@@ -39,7 +39,7 @@ factor-fits : {f : ℕ} → f ≤ low_start → SFits w64 (pos f)
 factor-fits h = record { sfits = omega (arith, h) }
 
 -- the rate of this turn
-rate-is : (c : After-of) → to_z w64 (of_z w64 (to_z w32 (of_z w32 (get_or c.args.rates.now (buckets * c.args.scenario + c.loop-k.k) (pos 0))))) ≡ cell_by c.args.rates.now 1 c.args.scenario c.loop-k.k
+rate-is : (c : After-from) → to_z w64 (of_z w64 (to_z w32 (of_z w32 (get_or c.args.rates.now (buckets * c.args.scenario + c.loop-k.k) (pos 0))))) ≡ cell_by c.args.rates.now 1 c.args.scenario c.loop-k.k
 rate-is c = rate-read c.args.scenario c.loop-k.k c.args.rates.now (omega arith)
 
 -- the product of this turn, and the sum with it
@@ -56,7 +56,7 @@ module _ (c : After-factor) where
   factor-is : c.factor.result ≡ factor (exponent (row.rate 1 i k) k)
   factor-is =
       c.factor.ensures.0
-      ∙ ap factor (c.of-exponent.ensures.is k (c.of.ensures ∙ ap (λ (l : List ℕ). pos (get_or l k 0)) c.requires.midpoints_value.0) ∙ ap (λ (r : ℤ). exponent r k) (rate-read i k c.args.rates.now (omega arith)))
+      ∙ ap factor (c.of-exponent.ensures.is k (c.from.ensures ∙ ap (λ (l : List ℕ). pos (get_or l k 0)) c.midpoints-midpoint-items.ensures) ∙ ap (λ (r : ℤ). exponent r k) (rate-read i k c.args.rates.now (omega arith)))
 
   product_is : to_z w64 (of_z w64 (get_or c.args.cells.now (buckets * i + k) (pos 0))) *ℤ to_z w64 c.factor.result ≡ weighed row 1 i k
   product_is =
@@ -66,24 +66,18 @@ module _ (c : After-factor) where
   product-fits = weighed-fits row 1 i c.requires.bounded_row.net k c.loop-k-test.true
 
   sum_is : to_z w64 c.loop-k.sum-bits +ℤ weighed row 1 i k ≡ sum_ℤ (weighed row 1 i) (k + 1)
-  sum_is = ap (λ (z : ℤ). z +ℤ weighed row 1 i k) c.loop-k.invariant.1 ∙ sym (sum_ℤ-more (weighed row 1 i) k)
+  sum_is = ap (λ (z : ℤ). z +ℤ weighed row 1 i k) c.loop-k.invariant ∙ sym (sum_ℤ-more (weighed row 1 i) k)
 
   sum_fits : SFits w64 (sum_ℤ (weighed row 1 i) (k + 1))
   sum_fits = weighed-sum-fits row 1 i c.requires.bounded_row.net (k + 1) (omega arith)
 
 pub loop-k-init : goal.loop-k-init
 unfolding sum_ℤ
-loop-k-init c = (omega arith, refl)
-
-pub bounds-midpoints-k : goal.bounds-midpoints-k
-unfolding midpoints
-bounds-midpoints-k c =
-    let e = ap length c.requires.midpoints_value.0 in
-    omega arith
+loop-k-init c = refl
 
 pub of-exponent-requires-clause-ranged : goal.of-exponent-requires-clause-ranged
 of-exponent-requires-clause-ranged c =
-    rw (rate-is (goal.at.of-exponent-requires-clause-ranged c).After-of) (c.requires.bounded_row.rates c.loop-k.k c.loop-k-test.true)
+    rw (rate-is (goal.at.of-exponent-requires-clause-ranged c).After-from) (c.requires.bounded_row.rates c.loop-k.k c.loop-k-test.true)
 
 pub overflow_mul-sum : goal.overflow_mul-sum
 overflow_mul-sum c = let a = (goal.at.overflow_mul-sum c).After-factor in rw (product_is a) (product-fits a)
@@ -96,10 +90,10 @@ overflow_add-sum-in-loop-k c =
 pub loop-k-preserved : goal.loop-k-preserved
 loop-k-preserved c =
     let a = (goal.at.loop-k-preserved c).After-factor in
-    rw (product_is a, to_z-of_z (product-fits a), sum_is a, to_z-of_z (sum_fits a)) (omega arith, refl)
+    rw (product_is a, to_z-of_z (product-fits a), sum_is a, to_z-of_z (sum_fits a))
 
 pub returns : goal.returns
 unfolding value
 returns c =
     let e : c.loop-k.k ≡ buckets = omega arith in
-    rw e at c.loop-k.invariant.1
+    rw e at c.loop-k.invariant
