@@ -4,8 +4,8 @@
 use paper::{CURRENCIES, KINDS};
 
 pub mod behind;
-mod closing;
 mod currency;
+pub mod standing;
 
 // `longest_behind` in specs/Behind.antt.
 pub const LONGEST_BEHIND: usize = (2 * 156 + 14 * 464 + (24 + 22 * KINDS)) * CURRENCIES + 129;
