@@ -4,34 +4,35 @@
 mod bytes;
 mod scan;
 
-ghost use Rattle.std.specs.Prelude.{◌≡◌, ℕ, ◌+◌, ◌≤◌, ◌<◌, length};
-ghost use Rattle.cases.specs.declared.Case.TheVariants.{Found};
+ghost use Rattle.std.specs.Prelude.{◌+◌, ◌≤◌, length, drop, IfSome};
+ghost use Rattle.std.specs.Io.{StartsWith};
+ghost use Rattle.cases.specs.Rest.{IsRest};
 
 use bytes::put_bytes;
 pub use scan::skip;
-use scan::{Read, line_end};
 
-// Where the bytes begin, where the next case begins, and how many bytes there are; or it is badly written.
+// The label to its line's end, how many bytes there are, and the text from the next case on.
 #[derive(Clone, Copy)]
-pub enum Case {
-    Found(usize, usize, usize),
-    Bad,
+pub struct Case<'a> {
+    pub label: &'a [u8],
+    pub count: usize,
+    pub rest: &'a [u8],
 }
 
-// The label stands after the mark and a blank, to its line's end; the bytes are those up to the next mark. No text is above 65,535 bytes.
-pub fn case_at(text: &[u8], at: usize, bytes: &mut [u8]) -> Case
-    requires { at < length text.now }
-    ensures { (b n m : ℕ) → result ≡ Found b n m → (at + 2 ≤ b) × (b ≤ n) × (n ≤ length text.now) × (m ≤ length bytes.old) }
+// The label stands after the mark and a blank; the bytes are those up to the next mark. Nothing where the case is badly written.
+pub fn read_case<'a>(text: &'a [u8], bytes: &mut [u8]) -> Option<Case<'a>>
+    ensures label { IfSome result (λ found. StartsWith (drop 2 text.now) found.label.now) }
+    ensures count { IfSome result (λ found. found.count ≤ length bytes.old) }
+    ensures rest { IfSome result (λ found. IsRest text.now found.rest.now) }
+    ensures apart { IfSome result (λ found. 2 + length found.label.now + length found.rest.now ≤ length text.now) }
 {
-    if text[at] != b'#' || text.len() > 65535 {
-        return Case::Bad;
-    }
-    let end = line_end(text, at + 1);
-    if end == text.len() {
-        return Case::Bad;
-    }
-    let Read::To(next, count) = put_bytes(text, end + 1, bytes) else {
-        return Case::Bad;
-    };
-    Case::Found(end + 1, next, count)
+    let marked = text.strip_prefix(b"#")?;
+    let end = marked.iter().position(|byte| *byte == b'\n')?;
+    let (line, body) = marked.split_at(end + 1);
+    let (count, rest) = put_bytes(body, bytes)?;
+    Some(Case {
+        label: &line[1..],
+        count,
+        rest,
+    })
 }

@@ -1,92 +1,62 @@
-// The parts of the text: lines, what stands between bytes, digits, numbers.
-ghost use Rattle.std.specs.Prelude.{◌≡◌, ℕ, ◌+◌, ◌≤◌, ◌<◌, length};
-ghost use Rattle.cases.specs.declared.scan.Read.TheVariants.{To};
+// The parts of the text: lines, what stands between bytes, digits, numbers. Each is read at the start of a text, and what is left is answered.
+ghost use Rattle.std.specs.Prelude.{◌≡◌, ◌+◌, ◌<◌, length, drop, IfSome};
+ghost use Rattle.cases.specs.Rest.{IsRest};
 
-// The place after what was read, and the number that it gave; or it is badly written.
-#[derive(Clone, Copy)]
-pub enum Read {
-    To(usize, usize),
-    Bad,
-}
-
-// The place of the line's newline, or of the text's end.
-pub fn line_end(text: &[u8], from: usize) -> usize
-    requires { from ≤ length text.now }
-    ensures { (from ≤ result) × (result ≤ length text.now) }
+// From the line's newline on, or from the text's end.
+fn line_end(text: &[u8]) -> &[u8]
+    ensures { IsRest text.now result.now }
 {
-    let mut at = from;
-    while at < text.len() {
-        if text[at] == b'\n' {
-            return at;
-        }
-        at += 1;
-    }
-    at
+    let length = text.iter().position(|byte| *byte == b'\n');
+    &text[length.unwrap_or(text.len())..]
 }
 
 // After blanks, newlines and comments.
-pub fn skip(text: &[u8], from: usize) -> usize
-    requires { from ≤ length text.now }
-    ensures { (from ≤ result) × (result ≤ length text.now) }
+#[tactic(auto, using(crate::proofs::Rest::rest_after, crate::proofs::Rest::rest_of_rest))]
+pub fn skip(text: &[u8]) -> &[u8]
+    ensures { IsRest text.now result.now }
 {
-    let mut at = from;
-    while at < text.len() {
-        match text[at] {
-            b' ' | b'\n' => at += 1,
-            b';' => at = line_end(text, at + 1),
-            _ => return at,
-        }
+    let mut rest = text;
+    while let Some((first, after)) = rest.split_first() {
+        rest = match first {
+            b' ' | b'\n' => after,
+            b';' => line_end(after),
+            _ => return rest,
+        };
     }
-    at
+    rest
 }
 
-// The value of a hex digit; 256 for any other byte.
-fn digit(byte: u8) -> usize
-    ensures { result ≤ 256 }
+// The value of a hex digit, which is no capital letter.
+fn digit(byte: u8) -> Option<u8>
+    ensures { IfSome result (λ value. value < 16) }
 {
     match byte {
-        b'0'..=b'9' => (byte - b'0') as usize,
-        b'a'..=b'f' => (byte - b'a') as usize + 10,
-        _ => 256,
+        b'0'..=b'9' => Some(byte - b'0'),
+        b'a'..=b'f' => Some(byte - b'a' + 10),
+        _ => None,
     }
 }
 
-// The byte of two hex digits; 256 or more where one of them is none.
-pub fn pair_at(text: &[u8], at: usize) -> usize
-    requires { at + 2 ≤ length text.now }
-    ensures { result ≤ 4352 }
+// The byte of two hex digits.
+pub fn pair(text: &[u8]) -> Option<(u8, &[u8])>
+    ensures { IfSome result (λ found. (found.1.now ≡ drop 2 text.now) × (length found.1.now + 2 ≡ length text.now)) }
 {
-    digit(text[at]) * 16 + digit(text[at + 1])
-}
-
-// Decimal digits, as far as they go: 0 where there are none. A number with more digits than any case can want is bad.
-fn number_at(text: &[u8], from: usize) -> Read
-    requires { from ≤ length text.now }
-    ensures { (n k : ℕ) → result ≡ To n k → (from ≤ n) × (n ≤ length text.now) }
-{
-    let mut at = from;
-    let mut number = 0;
-    while at < text.len() {
-        let next = digit(text[at]);
-        if next > 9 {
-            return Read::To(at, number);
-        }
-        if number > 6553 {
-            return Read::Bad;
-        }
-        number = number * 10 + next;
-        at += 1;
-    }
-    Read::To(at, number)
+    let ([high, low], rest) = text.split_first_chunk::<2>()?;
+    Some((digit(*high)? * 16 + digit(*low)?, rest))
 }
 
 // How often a byte is meant that ends here: once, unless a * and a number follow.
-pub fn times_at(text: &[u8], at: usize) -> Read
-    requires { at ≤ length text.now }
-    ensures { (n k : ℕ) → result ≡ To n k → (at ≤ n) × (n ≤ length text.now) }
+pub fn times(text: &[u8]) -> Option<(usize, &[u8])>
+    ensures { IfSome result (λ found. IsRest text.now found.1.now) }
 {
-    if at == text.len() || text[at] != b'*' {
-        return Read::To(at, 1);
+    let Some(number) = text.strip_prefix(b"*") else {
+        return Some((1, text));
+    };
+    let length = number.iter().take_while(|byte| byte.is_ascii_digit()).count();
+    let (digits, rest) = number.split_at(length);
+    let count = str::from_utf8(digits).ok()?.parse().ok()?;
+    if count == 0 {
+        return None;
     }
-    number_at(text, at + 1)
+    Some((count, rest))
 }

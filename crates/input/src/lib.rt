@@ -26,9 +26,14 @@ pub fn read_input<R: Read>(reader: &mut R, room: &mut [u8]) -> io::Result<usize>
 }
 
 // Prints the answer, which says how many bytes of `out` it wrote. Where the output cannot be written there is nobody to tell: the program ends.
-pub fn run<F: Fn(&[u8], &mut [u8]) -> usize>(rt: &HostRuntime, name: &str, answer: F, out: &mut [u8])
-    requires callable { (input : _) (room : _) → length room.now ≡ length out.old → F.pre answer input room }
-    requires fits { (input : _) (room : _) (n : ℕ) (after : _) → length room.now ≡ length out.old → F.post answer input room n after → n ≤ length out.old }
+pub fn run<const LENGTH: usize, F: Fn(&[u8], &mut [u8]) -> usize>(
+    rt: &HostRuntime,
+    name: &str,
+    answer: F,
+    out: &mut [u8; LENGTH],
+)
+    requires callable { (input : _) (room : _) → length room.now ≡ LENGTH → F.pre answer input room }
+    requires fits { (input : _) (room : _) (n : ℕ) (after : _) → length room.now ≡ LENGTH → F.post answer input room n after → n ≤ LENGTH }
 {
     // One byte more than the longest input that is read as a book, so that a longer one is seen to be longer.
     let mut input = [0u8; 65537];

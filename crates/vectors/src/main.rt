@@ -5,33 +5,39 @@
 mod rooms;
 mod show;
 
-use cases::{Case, case_at, skip};
-use input::{Input, read_input};
+use cases::{read_case, skip};
+use input::read_input;
+use paper::{CELLS, FIGURES};
+use rooms::show_room;
 use show::{say, show};
 
-// Only comments stand before the first case. A case that is badly written ends the run, with a line that says so.
-fn run_cases(rt: &impl Print, text: &[u8]) {
+const LONGEST: usize = 65535;
+
+// Only comments stand before the first case. Nothing comes of a case that is badly written, nor of those after it.
+fn run_cases(rt: &impl Print, text: &[u8]) -> Option<()> {
     let mut bytes = [0u8; 65537];
-    let mut at = skip(text, 0);
-    while at < text.len() {
-        let Case::Found(body, next, count) = case_at(text, at, &mut bytes) else {
-            say(rt, b"bad text\n");
-            return;
-        };
-        let label = at + 2;
-        show(rt, &text[label..body], &bytes[0..count]);
-        at = next;
+    let mut rest = skip(text);
+    while !rest.is_empty() {
+        if text.len() > LONGEST {
+            return None;
+        }
+        let case = read_case(rest, &mut bytes)?;
+        show(rt, case.label, &bytes[..case.count]);
+        rest = case.rest;
     }
+    Some(())
 }
 
 // One byte more than the longest text, so that a longer one is seen to be longer.
 fn main(rt: HostRuntime) {
-    let mut room = [0u8; 65536];
-    let Input::Bytes(n) = read_input(&mut rt.stdin(), &mut room) else {
+    let mut room = [0u8; LONGEST + 1];
+    let Ok(length) = read_input(&mut rt.stdin(), &mut room) else {
         say(&rt, b"standard input cannot be read\n");
         return;
     };
-    run_cases(&rt, &room[0..n]);
-    rooms::show_report_room(&rt);
-    rooms::show_ledger_room(&rt);
+    if run_cases(&rt, &room[..length]).is_none() {
+        say(&rt, b"bad text\n");
+    }
+    show_room(&rt, b"report room 201\n", &mut [0; 201], &mut [0; CELLS]);
+    show_room(&rt, b"ledger room 4,255\n", &mut [0; FIGURES], &mut [0; 4255]);
 }

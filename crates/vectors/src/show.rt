@@ -11,5 +11,5 @@ pub fn show(rt: &impl Print, label: &[u8], input: &[u8]) {
     let mut out = [0u8; LONGEST_TEXT];
     let count = print_answer(input, &mut out);
     say(rt, label);
-    say(rt, &out[0..count]);
+    say(rt, &out[..count]);
 }

@@ -1,9 +1,9 @@
--- Each case begins further on than the one before, and lies within the text and the room.
-use Rattle.std.proofs.Common.{length, ◌-◌, ◌≡◌, ◌≤◌}
+-- Each case is taken off the front of what is left, and its bytes lie within the room.
+use Rattle.std.proofs.Common.{length, ◌≡◌}
 use Rattle.vectors.proofs.run_cases.Given as goal
 
-abbrev pub invariant-loop-at : goal.invariant-loop-at
-invariant-loop-at g l = (l.at ≤ length l.text) × (length l.bytes ≡ 65537)
+abbrev pub invariant-loop-rest : goal.invariant-loop-rest
+invariant-loop-rest g l = length l.bytes ≡ 65537
 
-abbrev pub decreases-loop-at : goal.decreases-loop-at
-decreases-loop-at g l = length l.text - l.at
+abbrev pub decreases-loop-rest : goal.decreases-loop-rest
+decreases-loop-rest g l = length l.rest

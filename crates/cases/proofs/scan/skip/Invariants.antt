@@ -1,9 +1,10 @@
 -- What the loop of `skip` keeps, and why it ends.
-use Rattle.std.proofs.Common.{◌≤◌, ◌-◌, length}
+use Rattle.std.proofs.Common.{length}
+use Rattle.cases.specs.Rest.{IsRest}
 use Rattle.cases.proofs.scan.skip.Given as goal
 
-abbrev pub invariant-loop-at : goal.invariant-loop-at
-invariant-loop-at l = (l.from ≤ l.at) × (l.at ≤ length l.text)
+abbrev pub invariant-loop-first : goal.invariant-loop-first
+invariant-loop-first l = IsRest l.text l.rest
 
-abbrev pub decreases-loop-at : goal.decreases-loop-at
-decreases-loop-at l = length l.text - l.at
+abbrev pub decreases-loop-first : goal.decreases-loop-first
+decreases-loop-first l = length l.rest
