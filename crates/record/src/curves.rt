@@ -27,8 +27,7 @@ fn drawn(currency: u32, shocks: Shocks, rates: &[i64], from: usize) -> Result<Cu
     requires sized { Sized shocks × (from ≤ 5) }
     ensures { result ≡ drawn_of currency shocks (drawn currency (curve_of rates.now shocks) from) }
 {
-    let shocked = first_out_of_range(rates, shocks);
-    if shocked < BUCKETS {
+    if let Some(shocked) = first_out_of_range(rates, shocks) {
         return Err(Fault {
             cause: Refusal::OutOfRange,
             place: from + 1 + 4 * shocked,

@@ -8,7 +8,7 @@ ghost use Rattle.record.specs.Answers.{Body, loan_of};
 
 use fields::amounts::amounts_at;
 use fields::{record_fault, share_at};
-use paper::{BUCKETS, Fault, Refusal};
+use paper::{Fault, Refusal};
 use rules::loan::interest_alone;
 
 #[derive(Clone, Copy)]
@@ -24,8 +24,7 @@ pub fn decode_loan(currency: u32, body: &[u8]) -> Result<Loan, Fault>
     let share = share_at(body, 1)?;
     let principal = amounts_at(body, 3)?;
     let interest = amounts_at(body, 79)?;
-    let bare = interest_alone(body, principal);
-    if bare < BUCKETS {
+    if let Some(bare) = interest_alone(body, principal) {
         return Err(Fault {
             cause: Refusal::InterestAlone,
             place: 80 + 4 * bare,

@@ -8,11 +8,11 @@ use Rattle.paper.specs.declared.Refusal.TheVariants.{OutOfRange}
 use Rattle.paper.specs.Refusals.{◌>>◌, unless, fault}
 use Rattle.record.proofs.curves.drawn.Goals as goal
 
-pub returns-then-shocked-lt-BUCKETS : goal.returns-then-shocked-lt-BUCKETS
+pub returns-in-Some : goal.returns-in-Some
 unfolding unless ◌>>◌
-returns-then-shocked-lt-BUCKETS c =
-    rw (← c.first_out_of_range-shocked.ensures, lt-ltb _ _ c.if-shocked-lt-BUCKETS.true) (ap (λ (p : ℕ). Err (fault OutOfRange p)) (omega arith))
+returns-in-Some c =
+    rw (c.in-Some.ensures.0, lt-ltb _ _ c.in-Some.ensures.1) (ap (λ (p : ℕ). Err (fault OutOfRange p)) (omega arith))
 
 pub returns : goal.returns
 unfolding unless ◌>>◌
-returns c = rw (← c.first_out_of_range-shocked.ensures, le-ltb _ _ c.if-shocked-lt-BUCKETS.false)
+returns c = rw c.in_default.ensures

@@ -36,20 +36,20 @@ returns-in_err-interest c =
     let g = goal.at.returns-in_err-interest c in
     rw (handed _ c.from_residual-in_err-interest.ensures.1, c.requires.first, value c.in_ok-share.ensures, (principals g.In_ok-principal).list, bad total c.in_err-interest.ensures)
 
-pub interest_alone-bare-requires-clause-principal_value : goal.interest_alone-bare-requires-clause-principal_value
-interest_alone-bare-requires-clause-principal_value c = (amounts-summed _ 3 c.in_ok-principal.ensures).total
+pub interest_alone-requires-clause-principal_value : goal.interest_alone-requires-clause-principal_value
+interest_alone-requires-clause-principal_value c = (amounts-summed _ 3 c.in_ok-principal.ensures).total
 
-pub returns-then-bare-lt-BUCKETS : goal.returns-then-bare-lt-BUCKETS
+pub returns-in-Some : goal.returns-in-Some
 unfolding decode_loan unless ◌>>=◌ ◌>>◌ checked_as
-returns-then-bare-lt-BUCKETS c =
-    let g = goal.at.returns-then-bare-lt-BUCKETS c in
+returns-in-Some c =
+    let g = goal.at.returns-in-Some c in
     rw (
       c.requires.first,
       value c.in_ok-share.ensures,
       (principals g.In_ok-principal).list,
       (interests g.In_ok-interest).list,
-      ← c.interest_alone-bare.ensures,
-      lt-ltb _ _ c.if-bare-lt-BUCKETS.true,
+      c.in-Some.ensures.0,
+      lt-ltb _ _ c.in-Some.ensures.1,
     )
     (ap (refused InterestAlone) (omega arith))
 
@@ -70,8 +70,7 @@ returns-then-principal-interest-gt1000000000 c =
       value c.in_ok-share.ensures,
       (principals g.In_ok-principal).list,
       (interests g.In_ok-interest).list,
-      ← c.interest_alone-bare.ensures,
-      le-ltb _ _ c.if-bare-lt-BUCKETS.false,
+      c.in_default.ensures,
       lt-ltb _ _ over,
     )
 
@@ -86,7 +85,6 @@ returns c =
       value c.in_ok-share.ensures,
       (principals g.In_ok-principal).list,
       (interests g.In_ok-interest).list,
-      ← c.interest_alone-bare.ensures,
-      le-ltb _ _ c.if-bare-lt-BUCKETS.false,
+      c.in_default.ensures,
       le-ltb _ _ within,
     )
