@@ -8,19 +8,20 @@ ghost use Rattle.posting.specs.Answers.{TakesFlows};
 use behaviour::deposit::core_row;
 use paper::{BUCKETS, Fault};
 use posting::flows::enter_row;
-use record::deposit::{DecodedDeposit, decode_deposit};
+use record::deposit::decode_deposit;
 
-pub fn take_deposit(currency: u32, body: &[u8], section: &mut [i64], sizes: &mut [u64]) -> Result<(), Fault>
+pub fn take_deposit(
+    currency: u32,
+    body: &[u8],
+    section: &mut [i64],
+    sizes: &mut [u64],
+) -> Result<(), Fault>
     requires body { Body 82 currency body.now }
     requires flow_parts { FlowParts section.old sizes.old }
     ensures { TakesFlows (decode_deposit currencies body.now) section sizes result }
 {
-    match decode_deposit(currency, body) {
-        DecodedDeposit::Refused(fault) => Err(fault),
-        DecodedDeposit::Is(deposit) => {
-            let mut row = [0u64; BUCKETS];
-            core_row(body, deposit.total, &mut row);
-            enter_row(&row, 2, deposit.total, section, sizes)
-        }
-    }
+    let deposit = decode_deposit(currency, body)?;
+    let mut row = [0u64; BUCKETS];
+    core_row(body, deposit.total, &mut row);
+    enter_row(&row, 2, deposit.total, section, sizes)
 }

@@ -9,22 +9,23 @@ use behaviour::loan::loan_rows;
 use behaviour::rates::{RATES, ROWS};
 use paper::Fault;
 use posting::flows::enter_rows;
-use record::loan::{DecodedLoan, decode_loan};
+use record::loan::decode_loan;
 
-pub fn take_loan(currency: u32, body: &[u8], section: &mut [i64], sizes: &mut [u64]) -> Result<(), Fault>
+pub fn take_loan(
+    currency: u32,
+    body: &[u8],
+    section: &mut [i64],
+    sizes: &mut [u64],
+) -> Result<(), Fault>
     requires body { Body 155 currency body.now }
     requires flow_parts { FlowParts section.old sizes.old }
     ensures { TakesFlows (decode_loan currencies body.now) section sizes result }
 {
-    match decode_loan(currency, body) {
-        DecodedLoan::Refused(fault) => Err(fault),
-        DecodedLoan::Is(loan) => {
-            // Which of the three rates each scenario has (001, table 5).
-            let which = [0usize, 1, 2, 1, 2, 1, 2];
-            let mut rows = [0u64; ROWS];
-            let mut sums = [0u64; RATES];
-            loan_rows(body, loan.share, &mut rows, &mut sums);
-            enter_rows(&rows, &which, 1, &sums, section, sizes)
-        }
-    }
+    let loan = decode_loan(currency, body)?;
+    // Which of the three rates each scenario has (001, table 5).
+    let which = [0usize, 1, 2, 1, 2, 1, 2];
+    let mut rows = [0u64; ROWS];
+    let mut sums = [0u64; RATES];
+    loan_rows(body, loan.share, &mut rows, &mut sums);
+    enter_rows(&rows, &which, 1, &sums, section, sizes)
 }

@@ -10,7 +10,7 @@ use behaviour::rates::{RATES, ROWS};
 use behaviour::term_deposit::withdrawn_rows;
 use paper::{BUCKETS, Fault};
 use posting::flows::enter_rows;
-use record::term_deposit::{DecodedTermDeposit, decode_term_deposit};
+use record::term_deposit::decode_term_deposit;
 
 pub fn take_term_deposit(
     currency: u32,
@@ -22,15 +22,11 @@ pub fn take_term_deposit(
     requires flow_parts { FlowParts section.old sizes.old }
     ensures { TakesFlows (decode_term_deposit currencies body.now) section sizes result }
 {
-    match decode_term_deposit(currency, body) {
-        DecodedTermDeposit::Refused(fault) => Err(fault),
-        DecodedTermDeposit::Is(deposit) => {
-            // Which of the three rates each scenario has (001, table 6).
-            let which = [0usize, 2, 1, 1, 2, 2, 1];
-            let mut rows = [0u64; ROWS];
-            withdrawn_rows(body, deposit.share, &mut rows);
-            let sums = [row_sum(&rows[0..BUCKETS]).0; RATES];
-            enter_rows(&rows, &which, 2, &sums, section, sizes)
-        }
-    }
+    let deposit = decode_term_deposit(currency, body)?;
+    // Which of the three rates each scenario has (001, table 6).
+    let which = [0usize, 2, 1, 1, 2, 2, 1];
+    let mut rows = [0u64; ROWS];
+    withdrawn_rows(body, deposit.share, &mut rows);
+    let sums = [row_sum(&rows[0..BUCKETS]).0; RATES];
+    enter_rows(&rows, &which, 2, &sums, section, sizes)
 }

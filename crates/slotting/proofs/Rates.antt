@@ -14,7 +14,7 @@ use Rattle.paper.specs.declared.Fault.{Fault}
 use Rattle.paper.specs.Ladder.{buckets}
 use Rattle.paper.specs.Curve.{Curve, shocked_rate}
 use Rattle.paper.specs.Flow.{gives}
-use Rattle.paper.specs.Refusals.{Checked, accepted, refused}
+use Rattle.paper.specs.Refusals.{Checked, accepted, refused, checked_as}
 use Rattle.paper.specs.Records.{Record, curve, currencies}
 use Rattle.paper.specs.Ledger.{section_size}
 use Rattle.paper.specs.TurnedDown.{bad_rate}
@@ -30,9 +30,8 @@ use Rattle.std.specs.Prelude.{Ok, Err}
 use Rattle.posting.specs.Parts.{Taken}
 use Rattle.posting.specs.Answers.{CurveTaken}
 use Rattle.record.specs.declared.curves.Curve.{Curve as FieldsOfCurve}
-use Rattle.record.specs.declared.curves.DecodedCurve.{DecodedCurve}
-use Rattle.record.specs.declared.curves.DecodedCurve.TheVariants.{Is}
-use Rattle.record.specs.Answers.{curve_read}
+use Rattle.std.specs.Prelude.{Result, Ok}
+use Rattle.record.specs.Answers.{curve_record}
 use Rattle.slotting.specs.Parts.{RateParts, Enterable}
 
 known_by : {A : Type 0} {P : A → Type 0} (m : Checked A) → ((a : A) → m ≡ accepted a → P a) → Known P m
@@ -61,9 +60,9 @@ base-is body o room good long =
     rw (good, take_all buckets (rates_from body o) whole, drop_of_length-le room {i = buckets} (omega arith), append-nil)
 
 -- what a decoder accepted may be entered
-pub enterable : (body : List ℕ) (o : ℕ) {curved : Bool} {decoded : DecodedCurve} {read : Checked Record} {rates : List ℤ} → curve_read body o decoded ≡ read
+pub enterable : (body : List ℕ) (o : ℕ) {curved : Bool} {decoded : Result FieldsOfCurve Fault} {read : Checked Record} {rates : List ℤ} → checked_as (curve_record body o) decoded ≡ read
     → Known (Sound currencies (λ _. curved)) read → Known (λ r. good_rates body o ≡ buckets) read → RateParts curved rates → Enterable decoded body o rates
-unfolding curve_read Sound
+unfolding checked_as Sound
 enterable body o {curved} {decoded} {read} {rates} means sound good parts = record {
   good = λ s e. known_of good _ (reads s e);
   base = λ s e. (drawn s e).base;
@@ -71,10 +70,10 @@ enterable body o {curved} {decoded} {read} {rates} means sound good parts = reco
   bare = λ s e. parts.bare (drawn s e).fresh;
 }
   where
-    reads : (s : FieldsOfCurve) → decoded ≡ Is s → read ≡ accepted (curve s.currency (curve_of (rates_from body o) s.shocks))
-    reads s e = sym means ∙ ap (curve_read body o) e
+    reads : (s : FieldsOfCurve) → decoded ≡ Ok s → read ≡ accepted (curve s.currency (curve_of (rates_from body o) s.shocks))
+    reads s e = sym means ∙ ap (checked_as (curve_record body o)) e
 
-    drawn : (s : FieldsOfCurve) → decoded ≡ Is s → SoundCurve (λ _. curved) s.currency (curve_of (rates_from body o) s.shocks)
+    drawn : (s : FieldsOfCurve) → decoded ≡ Ok s → SoundCurve (λ _. curved) s.currency (curve_of (rates_from body o) s.shocks)
     drawn s e = (known_of sound _ (reads s e)).1
 
 -- ---- the part: nil, and then the rates of the seven scenarios

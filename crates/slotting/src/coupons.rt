@@ -7,7 +7,7 @@ ghost use Rattle.posting.specs.Answers.{TakesFlows};
 
 use due::schedule::{Schedule, slot_schedule};
 use paper::Fault;
-use record::coupons::{DecodedCoupons, decode_coupons};
+use record::coupons::decode_coupons;
 
 pub fn take_coupons(
     currency: u32,
@@ -19,27 +19,23 @@ pub fn take_coupons(
     requires flow_parts { FlowParts section.old sizes.old }
     ensures { TakesFlows (decode_coupons currencies body.now) section sizes result }
 {
-    match decode_coupons(currency, body) {
-        DecodedCoupons::Refused(fault) => Err(fault),
-        DecodedCoupons::Is(bond) => {
-            let coupon = bond.coupon;
-            let principal = bond.principal;
-            let coupons = Schedule {
-                months: 0,
-                days: 0,
-                period: bond.period,
-                count: bond.count,
-                coupon,
-            };
-            slot_schedule(
-                bond.side,
-                coupons,
-                bond.period * bond.count,
-                0,
-                principal,
-                section,
-                sizes,
-            )
-        }
-    }
+    let bond = decode_coupons(currency, body)?;
+    let coupon = bond.coupon;
+    let principal = bond.principal;
+    let coupons = Schedule {
+        months: 0,
+        days: 0,
+        period: bond.period,
+        count: bond.count,
+        coupon,
+    };
+    slot_schedule(
+        bond.side,
+        coupons,
+        bond.period * bond.count,
+        0,
+        principal,
+        section,
+        sizes,
+    )
 }

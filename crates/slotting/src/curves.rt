@@ -3,18 +3,19 @@ ghost use Rattle.std.specs.Prelude.{◌≡◌, ◌+◌, ◌≤◌, length};
 ghost use Rattle.paper.specs.Ledger.{section_size};
 ghost use Rattle.paper.specs.Records.{currencies};
 ghost use Rattle.paper.specs.Decode.{decode_curve, decode_listed_curve};
-ghost use Rattle.record.specs.Answers.{Body, curve_read};
+ghost use Rattle.paper.specs.Refusals.{checked_as};
+ghost use Rattle.record.specs.Answers.{Body, curve_record};
 ghost use Rattle.posting.specs.Answers.{CurveTaken};
 ghost use Rattle.slotting.specs.Parts.{RateParts, Enterable};
 
 use curve::fill_section;
 use fields::rates::rates_at;
 use paper::{BUCKETS, Fault};
-use record::curves::{DecodedCurve, decode_curve, decode_listed_curve};
+use record::curves::{Curve, decode_curve, decode_listed_curve};
 
 // The rates begin at `from` in the body.
 fn enter_curve(
-    decoded: DecodedCurve,
+    decoded: Result<Curve, Fault>,
     body: &[u8],
     from: usize,
     rates: &mut [i32],
@@ -22,17 +23,14 @@ fn enter_curve(
     requires from_in_bounds { from + 76 ≤ length body.now }
     requires rates_len { length rates.old ≡ section_size }
     requires enterable { Enterable decoded body.now from rates.old }
-    ensures { CurveTaken (curve_read body.now from decoded) rates.old result rates.new }
+    ensures { CurveTaken (checked_as (curve_record body.now from) decoded) rates.old result rates.new }
 {
-    match decoded {
-        DecodedCurve::Refused(fault) => Err(fault),
-        DecodedCurve::Is(curve) => {
-            let mut base = [0i64; BUCKETS];
-            rates_at(body, from, &mut base);
-            fill_section(&base, curve.shocks, rates);
-            Ok(())
-        }
-    }
+    let curve = decoded?;
+    let mut base = [0i64; BUCKETS];
+    // The decoder has found them good: here they are set down.
+    let _ = rates_at(body, from, &mut base);
+    fill_section(&base, curve.shocks, rates);
+    Ok(())
 }
 
 pub fn take_curve(currency: u32, curved: bool, body: &[u8], rates: &mut [i32]) -> Result<(), Fault>

@@ -7,7 +7,7 @@ ghost use Rattle.posting.specs.Answers.{TakesFlows};
 
 use due::amount::slot_due;
 use paper::Fault;
-use record::floating::{DecodedFloating, decode_floating};
+use record::floating::decode_floating;
 use scales::Thousands;
 
 pub fn take_floating(
@@ -20,15 +20,13 @@ pub fn take_floating(
     requires flow_parts { FlowParts section.old sizes.old }
     ensures { TakesFlows (decode_floating currencies body.now) section sizes result }
 {
-    match decode_floating(currency, body) {
-        DecodedFloating::Refused(fault) => Err(fault),
-        DecodedFloating::Is(position) => slot_due(
-            position.side,
-            position.months,
-            position.days,
-            Thousands(position.principal.0 + position.coupon.0),
-            section,
-            sizes,
-        ),
-    }
+    let position = decode_floating(currency, body)?;
+    slot_due(
+        position.side,
+        position.months,
+        position.days,
+        Thousands(position.principal.0 + position.coupon.0),
+        section,
+        sizes,
+    )
 }

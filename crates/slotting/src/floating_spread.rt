@@ -7,7 +7,7 @@ ghost use Rattle.posting.specs.Answers.{TakesFlows};
 
 use due::schedule::{Schedule, slot_schedule};
 use paper::Fault;
-use record::floating_spread::{DecodedFloatingSpread, decode_floating_spread};
+use record::floating_spread::decode_floating_spread;
 use scales::Thousands;
 
 pub fn take_floating_spread(
@@ -20,27 +20,23 @@ pub fn take_floating_spread(
     requires flow_parts { FlowParts section.old sizes.old }
     ensures { TakesFlows (decode_floating_spread currencies body.now) section sizes result }
 {
-    match decode_floating_spread(currency, body) {
-        DecodedFloatingSpread::Refused(fault) => Err(fault),
-        DecodedFloatingSpread::Is(position) => {
-            let floating = position.floating;
-            let spread = position.spread;
-            let spreads = Schedule {
-                months: floating.months,
-                days: floating.days,
-                period: position.period,
-                count: position.count,
-                coupon: spread,
-            };
-            slot_schedule(
-                floating.side,
-                spreads,
-                floating.months,
-                floating.days,
-                Thousands(floating.principal.0 + floating.coupon.0),
-                section,
-                sizes,
-            )
-        }
-    }
+    let position = decode_floating_spread(currency, body)?;
+    let floating = position.floating;
+    let spread = position.spread;
+    let spreads = Schedule {
+        months: floating.months,
+        days: floating.days,
+        period: position.period,
+        count: position.count,
+        coupon: spread,
+    };
+    slot_schedule(
+        floating.side,
+        spreads,
+        floating.months,
+        floating.days,
+        Thousands(floating.principal.0 + floating.coupon.0),
+        section,
+        sizes,
+    )
 }

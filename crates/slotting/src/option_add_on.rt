@@ -14,7 +14,7 @@ ghost use Rattle.slotting.specs.Parts.{OptionParts};
 use paper::{Fault, SHOCKED};
 use posting::cells::sided;
 use posting::room::admit;
-use record::option_add_on::{DecodedOption, decode_option};
+use record::option_add_on::decode_option;
 use scales::SignedThousands;
 
 fn add_values(addons: &mut [i64], side: u32, values: &[i64])
@@ -54,18 +54,14 @@ pub fn take_option(
     requires option_parts { OptionParts sizes.old addons.old }
     ensures { TakesOption (decode_option currencies body.now) sizes addons result }
 {
-    match decode_option(currency, body) {
-        DecodedOption::Refused(fault) => Err(fault),
-        DecodedOption::Is(option) => {
-            let values = [
-                option.up.0,
-                option.down.0,
-                option.steepener.0,
-                option.flattener.0,
-                option.short_up.0,
-                option.short_down.0,
-            ];
-            slot_values(option.side, values, sizes, addons)
-        }
-    }
+    let option = decode_option(currency, body)?;
+    let values = [
+        option.up.0,
+        option.down.0,
+        option.steepener.0,
+        option.flattener.0,
+        option.short_up.0,
+        option.short_down.0,
+    ];
+    slot_values(option.side, values, sizes, addons)
 }

@@ -7,7 +7,7 @@ ghost use Rattle.posting.specs.Answers.{TakesFlows};
 
 use due::amount::slot_due;
 use paper::Fault;
-use record::single::{DecodedSingle, decode_single};
+use record::single::decode_single;
 
 pub fn take_single(
     currency: u32,
@@ -19,15 +19,13 @@ pub fn take_single(
     requires flow_parts { FlowParts section.old sizes.old }
     ensures { TakesFlows (decode_single currencies body.now) section sizes result }
 {
-    match decode_single(currency, body) {
-        DecodedSingle::Refused(fault) => Err(fault),
-        DecodedSingle::Is(flow) => slot_due(
-            flow.side,
-            flow.months,
-            flow.days,
-            flow.amount,
-            section,
-            sizes,
-        ),
-    }
+    let flow = decode_single(currency, body)?;
+    slot_due(
+        flow.side,
+        flow.months,
+        flow.days,
+        flow.amount,
+        section,
+        sizes,
+    )
 }

@@ -1,4 +1,5 @@
 -- `take_term_deposit`: refused by its decoder, or the rows of three rates entered.
+use Rattle.fields.proofs.Reading.{handed}
 use Prim.Native.Nat.{ℕ, ◌/◌, ◌%◌, ◌<◌, ◌≤◌}
 use lib.IntN.{pos}
 use lib.ListN.{replicate, get_or-replicate}
@@ -12,7 +13,7 @@ use Rattle.paper.specs.Decode.{decode_term_deposit}
 use Rattle.paper.proofs.Deposits.{moves-add-up, rate-at-most}
 use Rattle.paper.proofs.Magnitudes.{size-term-deposit}
 use Rattle.fields.specs.Answers.{amounts_from}
-use Rattle.record.specs.Answers.{term_deposit_of, term_deposit_read}
+use Rattle.record.specs.Answers.{term_deposit_of}
 use Rattle.posting.specs.Parts.{AtMost, trillion}
 use Rattle.behaviour.specs.Rows.{three_multipliers}
 use Rattle.posting.proofs.Loops.{replicate-all, row-long, row_small}
@@ -22,7 +23,7 @@ use mathlib.Core.Bool.{true, false}
 use mathlib.Core.List.{List, [], ◌∷◌}
 use mathlib.Core.Path.{◌≡◌, refl, sym, ap, ◌∙◌}
 use native.Mathlib.Omega.{arith}
-use Rattle.paper.specs.Refusals.{accepted}
+use Rattle.paper.specs.Refusals.{accepted, checked_as}
 use Rattle.paper.specs.Records.{flows, currencies}
 use Rattle.paper.specs.Sound.{SoundFlows}
 use Rattle.paper.proofs.KindTable.{term-deposit-kind}
@@ -30,19 +31,19 @@ use Rattle.record.specs.declared.term_deposit.TermDeposit.{TermDeposit}
 use Rattle.posting.proofs.Admission.{flows-refused, flows-sound}
 use Rattle.behaviour.proofs.AmountRange.{amounts-few, amounts-small}
 use Rattle.portfolio.proofs.term_deposit.take_term_deposit.Goals as goal
-use Rattle.portfolio.proofs.term_deposit.take_term_deposit.Goals.{In-Is}
+use Rattle.portfolio.proofs.term_deposit.take_term_deposit.Goals.{In_ok-deposit}
 
 -- what is known once the body has been read
-module _ (c : In-Is) where
+module _ (c : In_ok-deposit) where
   abbrev body : List ℕ
   body = c.args.body.now
 
   abbrev fields : TermDeposit
-  fields = c.in-Is.deposit
+  fields = c.in_ok-deposit.deposit
 
   read : decode_term_deposit currencies body ≡ accepted (flows fields.currency (term_deposit_of body fields))
-  unfolding term_deposit_read
-  read = sym c.decode_term_deposit.ensures ∙ ap (term_deposit_read body) c.in-Is.is
+  unfolding checked_as
+  read = sym c.in_ok-deposit.ensures
 
   sound : SoundFlows (term_deposit_of body fields)
   sound = flows-sound (λ _. false) (term-deposit-kind currencies (λ _. false) body).sound read
@@ -51,7 +52,7 @@ pub decode_term_deposit-requires : goal.decode_term_deposit-requires
 decode_term_deposit-requires c = c.requires.body
 
 -- a deposit's nineteen flows at each of the three rates
-abbrev row : In-Is → ℕ → ℕ → ℕ
+abbrev row : In_ok-deposit → ℕ → ℕ → ℕ
 row w n = term_deposit_flow (behavioural_rate three_multipliers (fields w).share n) (amounts_from (body w) 3)
 
 abbrev which : List ℕ
@@ -64,15 +65,15 @@ chosen = refl
 pub withdrawn_rows-requires : goal.withdrawn_rows-requires
 unfolding SoundFlows
 withdrawn_rows-requires c =
-    record { body_len = (c.requires.body.long, (sound (goal.at.withdrawn_rows-requires c).In-Is).0.to, refl); at_most = amounts-small (sound (goal.at.withdrawn_rows-requires c).In-Is).1 }
+    record { body_len = (c.requires.body.long, (sound (goal.at.withdrawn_rows-requires c).In_ok-deposit).0.to, refl); at_most = amounts-small (sound (goal.at.withdrawn_rows-requires c).In_ok-deposit).1 }
 
 -- no flow is above all that is deposited
-row_within : (w : In-Is) (n k : ℕ) → k < buckets → row w n k ≤ sum_of (amounts_from (body w) 3)
+row_within : (w : In_ok-deposit) (n k : ℕ) → k < buckets → row w n k ≤ sum_of (amounts_from (body w) 3)
 row_within w n k l =
     withdrawn-small (behavioural_rate three_multipliers (fields w).share n) (amounts_from (body w) 3) (rate-at-most three_multipliers (fields w).share n)
     (amounts-few (body w) 3) k l
 
-rows-small : (w : In-Is) {l : List ℕ} → l ≡ tabulate (by_place (row w)) 57 → AtMost trillion l
+rows-small : (w : In_ok-deposit) {l : List ℕ} → l ≡ tabulate (by_place (row w)) 57 → AtMost trillion l
 unfolding SoundFlows
 rows-small w filled =
     row_small (by_place (row w)) 57 trillion filled
@@ -81,12 +82,12 @@ rows-small w filled =
 pub row_sum-sums-requires : goal.row_sum-sums-requires
 row_sum-sums-requires c =
     let filled = c.withdrawn_rows.ensures in
-    first-row (row (goal.at.row_sum-sums-requires c).In-Is) filled (rows-small (goal.at.row_sum-sums-requires c).In-Is filled)
+    first-row (row (goal.at.row_sum-sums-requires c).In_ok-deposit) filled (rows-small (goal.at.row_sum-sums-requires c).In_ok-deposit filled)
 
 pub enter_rows-requires : goal.enter_rows-requires
 unfolding SoundFlows
 enter_rows-requires c =
-    let w = (goal.at.enter_rows-requires c).In-Is in
+    let w = (goal.at.enter_rows-requires c).In_ok-deposit in
     -- all that is deposited, at every rate
     let summed = c.row_sum-sums.ensures ∙ first-sum (row w) c.withdrawn_rows.ensures
     ∙ moves-add-up (behavioural_rate three_multipliers (fields w).share 0) (amounts_from (body w) 3) (rate-at-most three_multipliers (fields w).share 0) (amounts-few (body w) 3) in
@@ -102,13 +103,13 @@ enter_rows-requires c =
       flow_parts = c.requires.flow_parts;
     }
 
-pub returns-in-Refused : goal.returns-in-Refused
-unfolding term_deposit_read
-returns-in-Refused c = flows-refused c.in-Refused.fault (sym c.decode_term_deposit.ensures ∙ ap (term_deposit_read _) c.in-Refused.is) _ _
+pub returns-in_err-deposit : goal.returns-in_err-deposit
+unfolding checked_as
+returns-in_err-deposit c = rw (handed _ c.from_residual.ensures.1) (flows-refused _ (sym c.in_err-deposit.ensures) _ _)
 
-pub returns-in-Is : goal.returns-in-Is
-returns-in-Is c =
-    let w = (goal.at.returns-in-Is c).In-Is in
+pub returns : goal.returns
+returns c =
+    let w = (goal.at.returns c).In_ok-deposit in
     -- all that is deposited, at every rate
     let summed = c.row_sum-sums.ensures ∙ first-sum (row w) c.withdrawn_rows.ensures
     ∙ moves-add-up (behavioural_rate three_multipliers (fields w).share 0) (amounts_from (body w) 3) (rate-at-most three_multipliers (fields w).share 0) (amounts-few (body w) 3) in

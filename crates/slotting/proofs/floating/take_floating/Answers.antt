@@ -1,12 +1,13 @@
 -- `take_floating`: refused by its decoder, or slotted as one amount due at the reset.
+use Rattle.fields.proofs.Reading.{handed}
 use Prim.Native.Nat.{ℕ, ◌+◌}
 use Rattle.paper.specs.Decode.{decode_floating}
-use Rattle.record.specs.Answers.{floating_of, floating_read}
+use Rattle.record.specs.Answers.{floating_of}
 use mathlib.Core.Bool.{false}
 use mathlib.Core.List.{List}
-use mathlib.Core.Path.{◌≡◌, refl, sym, ap, ◌∙◌}
+use mathlib.Core.Path.{◌≡◌, refl, sym}
 use native.Mathlib.Omega.{arith}
-use Rattle.paper.specs.Refusals.{accepted}
+use Rattle.paper.specs.Refusals.{accepted, checked_as}
 use Rattle.paper.specs.Records.{flows, currencies}
 use Rattle.paper.specs.Flow.{due, flow_of}
 use Rattle.paper.specs.Sound.{SoundFlows}
@@ -15,19 +16,19 @@ use Rattle.paper.proofs.KindTable.{floating-kind}
 use Rattle.record.specs.declared.floating.Floating.{Floating}
 use Rattle.posting.proofs.Admission.{steady-taken, flows-refused, flows-sound}
 use Rattle.slotting.proofs.floating.take_floating.Goals as goal
-use Rattle.slotting.proofs.floating.take_floating.Goals.{In-Is}
+use Rattle.slotting.proofs.floating.take_floating.Goals.{In_ok-position}
 
 -- what is known once the body has been read
-module _ (c : In-Is) where
+module _ (c : In_ok-position) where
   abbrev body : List ℕ
   body = c.args.body.now
 
   abbrev fields : Floating
-  fields = c.in-Is.position
+  fields = c.in_ok-position.position
 
   read : decode_floating currencies body ≡ accepted (flows fields.currency (floating_of fields))
-  unfolding floating_read
-  read = sym c.decode_floating.ensures ∙ ap (floating_read) c.in-Is.is
+  unfolding checked_as
+  read = sym c.in_ok-position.ensures
 
   sound : SoundFlows (floating_of fields)
   sound = flows-sound (λ _. false) (floating-kind currencies (λ _. false) body).sound read
@@ -37,18 +38,18 @@ decode_floating-requires c = c.requires.body
 
 pub overflow_add-position : goal.overflow_add-position
 unfolding SoundFlows
-overflow_add-position c = record { fits = omega (arith, (sound (goal.at.overflow_add-position c).In-Is).2.to, (sound (goal.at.overflow_add-position c).In-Is).3.to) }
+overflow_add-position c = record { fits = omega (arith, (sound (goal.at.overflow_add-position c).In_ok-position).2.to, (sound (goal.at.overflow_add-position c).In_ok-position).3.to) }
 
 pub slot_due-requires : goal.slot_due-requires
 unfolding SoundFlows
-slot_due-requires c = record { amount_bound = omega (arith, (sound (goal.at.slot_due-requires c).In-Is).2.to, (sound (goal.at.slot_due-requires c).In-Is).3.to); flow_parts = c.requires.flow_parts }
+slot_due-requires c = record { amount_bound = omega (arith, (sound (goal.at.slot_due-requires c).In_ok-position).2.to, (sound (goal.at.slot_due-requires c).In_ok-position).3.to); flow_parts = c.requires.flow_parts }
 
-pub returns-in-Refused : goal.returns-in-Refused
-unfolding floating_read
-returns-in-Refused c = flows-refused c.in-Refused.fault (sym c.decode_floating.ensures ∙ ap (floating_read) c.in-Refused.is) _ _
+pub returns-in_err-position : goal.returns-in_err-position
+unfolding checked_as
+returns-in_err-position c = rw (handed _ c.from_residual.ensures.1) (flows-refused _ (sym c.in_err-position.ensures) _ _)
 
-pub returns-in-Is : goal.returns-in-Is
+pub returns : goal.returns
 unfolding flow_of
-returns-in-Is c =
-    steady-taken (fields (goal.at.returns-in-Is c).In-Is).currency (floating_of (fields (goal.at.returns-in-Is c).In-Is)) (fields (goal.at.returns-in-Is c).In-Is).side (due _ ((fields (goal.at.returns-in-Is c).In-Is).principal.0 + (fields (goal.at.returns-in-Is c).In-Is).coupon.0)) ((fields (goal.at.returns-in-Is c).In-Is).principal.0 + (fields (goal.at.returns-in-Is c).In-Is).coupon.0) (due-once _ ((fields (goal.at.returns-in-Is c).In-Is).principal.0 + (fields (goal.at.returns-in-Is c).In-Is).coupon.0)) (λ i k. refl)
-    c.requires.flow_parts (read (goal.at.returns-in-Is c).In-Is) c.slot_due.ensures
+returns c =
+    steady-taken (fields (goal.at.returns c).In_ok-position).currency (floating_of (fields (goal.at.returns c).In_ok-position)) (fields (goal.at.returns c).In_ok-position).side (due _ ((fields (goal.at.returns c).In_ok-position).principal.0 + (fields (goal.at.returns c).In_ok-position).coupon.0)) ((fields (goal.at.returns c).In_ok-position).principal.0 + (fields (goal.at.returns c).In_ok-position).coupon.0) (due-once _ ((fields (goal.at.returns c).In_ok-position).principal.0 + (fields (goal.at.returns c).In_ok-position).coupon.0)) (λ i k. refl)
+    c.requires.flow_parts (read (goal.at.returns c).In_ok-position) c.slot_due.ensures

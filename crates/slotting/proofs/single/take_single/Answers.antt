@@ -1,12 +1,13 @@
 -- `take_single`: refused by its decoder, or slotted as one amount due.
+use Rattle.fields.proofs.Reading.{handed}
 use Prim.Native.Nat.{ℕ}
 use Rattle.paper.specs.Decode.{decode_single}
-use Rattle.record.specs.Answers.{single_of, single_read}
+use Rattle.record.specs.Answers.{single_of}
 use mathlib.Core.Bool.{false}
 use mathlib.Core.List.{List}
-use mathlib.Core.Path.{◌≡◌, refl, sym, ap, ◌∙◌}
+use mathlib.Core.Path.{◌≡◌, refl, sym}
 use native.Mathlib.Omega.{arith}
-use Rattle.paper.specs.Refusals.{accepted}
+use Rattle.paper.specs.Refusals.{accepted, checked_as}
 use Rattle.paper.specs.Records.{flows, currencies}
 use Rattle.paper.specs.Flow.{due, flow_of}
 use Rattle.paper.specs.Sound.{SoundFlows}
@@ -15,19 +16,19 @@ use Rattle.paper.proofs.KindTable.{single-kind}
 use Rattle.record.specs.declared.single.Single.{Single}
 use Rattle.posting.proofs.Admission.{steady-taken, flows-refused, flows-sound}
 use Rattle.slotting.proofs.single.take_single.Goals as goal
-use Rattle.slotting.proofs.single.take_single.Goals.{In-Is}
+use Rattle.slotting.proofs.single.take_single.Goals.{In_ok-flow}
 
 -- what is known once the body has been read
-module _ (c : In-Is) where
+module _ (c : In_ok-flow) where
   abbrev body : List ℕ
   body = c.args.body.now
 
   abbrev fields : Single
-  fields = c.in-Is.flow
+  fields = c.in_ok-flow.flow
 
   read : decode_single currencies body ≡ accepted (flows fields.currency (single_of fields))
-  unfolding single_read
-  read = sym c.decode_single.ensures ∙ ap (single_read) c.in-Is.is
+  unfolding checked_as
+  read = sym c.in_ok-flow.ensures
 
   sound : SoundFlows (single_of fields)
   sound = flows-sound (λ _. false) (single-kind currencies (λ _. false) body).sound read
@@ -37,14 +38,14 @@ decode_single-requires c = c.requires.body
 
 pub slot_due-requires : goal.slot_due-requires
 unfolding SoundFlows
-slot_due-requires c = record { amount_bound = omega (arith, (sound (goal.at.slot_due-requires c).In-Is).2.to); flow_parts = c.requires.flow_parts }
+slot_due-requires c = record { amount_bound = omega (arith, (sound (goal.at.slot_due-requires c).In_ok-flow).2.to); flow_parts = c.requires.flow_parts }
 
-pub returns-in-Refused : goal.returns-in-Refused
-unfolding single_read
-returns-in-Refused c = flows-refused c.in-Refused.fault (sym c.decode_single.ensures ∙ ap (single_read) c.in-Refused.is) _ _
+pub returns-in_err-flow : goal.returns-in_err-flow
+unfolding checked_as
+returns-in_err-flow c = rw (handed _ c.from_residual.ensures.1) (flows-refused _ (sym c.in_err-flow.ensures) _ _)
 
-pub returns-in-Is : goal.returns-in-Is
+pub returns : goal.returns
 unfolding flow_of
-returns-in-Is c =
-    steady-taken (fields (goal.at.returns-in-Is c).In-Is).currency (single_of (fields (goal.at.returns-in-Is c).In-Is)) (fields (goal.at.returns-in-Is c).In-Is).side (due _ (fields (goal.at.returns-in-Is c).In-Is).amount.0) (fields (goal.at.returns-in-Is c).In-Is).amount.0 (due-once _ (fields (goal.at.returns-in-Is c).In-Is).amount.0) (λ i k. refl)
-    c.requires.flow_parts (read (goal.at.returns-in-Is c).In-Is) c.slot_due.ensures
+returns c =
+    steady-taken (fields (goal.at.returns c).In_ok-flow).currency (single_of (fields (goal.at.returns c).In_ok-flow)) (fields (goal.at.returns c).In_ok-flow).side (due _ (fields (goal.at.returns c).In_ok-flow).amount.0) (fields (goal.at.returns c).In_ok-flow).amount.0 (due-once _ (fields (goal.at.returns c).In_ok-flow).amount.0) (λ i k. refl)
+    c.requires.flow_parts (read (goal.at.returns c).In_ok-flow) c.slot_due.ensures
