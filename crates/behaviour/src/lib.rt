@@ -3,6 +3,7 @@
 #![tactic(auto)]
 
 pub mod amounts;
+mod course;
 pub mod deposit;
 pub mod loan;
 pub mod rates;

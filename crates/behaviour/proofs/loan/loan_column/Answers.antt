@@ -1,102 +1,105 @@
 -- The rates passed have one bucket more; the others are as they were.
 use Prim.Native.Nat.{ℕ, suc, ◌+◌, ◌<◌}
 use mathlib.Core.List.{List}
-use mathlib.Core.Path.{◌≡◌, sym, ap, ap₂, ◌∙◌}
+use mathlib.Core.Path.{◌≡◌, refl, sym, ap, ap₂, ◌∙◌}
 use native.Mathlib.Numerals.{add-one}
 use native.Mathlib.Omega.{arith}
-use lib.ListN.{get_or}
-use borrow.Author.Rules.{rules}
+use lib.ListN.{get_or, get_or-map}
+use lib.Seq.{map-set_same}
+use Rattle.std.proofs.lemmas.List.{map-set}
 use Rattle.laws.specs.Sums.{sum}
 use Rattle.laws.proofs.Sums.{sum_more}
-use Rattle.paper.specs.Ladder.{width}
-use Rattle.paper.specs.Behaviour.{outstanding_at, scheduled_at, loan_flow}
+use Rattle.paper.specs.Behaviour.{loan_flow}
 use Rattle.paper.proofs.Widths.{width-most}
 use Rattle.fields.specs.Answers.{amounts_from}
+use Rattle.behaviour.specs.declared.course.Course.{Course}
+use Rattle.behaviour.specs.Columns.{rates}
 use Rattle.behaviour.proofs.AmountRange.{amounts-few}
 use Rattle.behaviour.proofs.Columns.{passed, passed_none, passed-all, kept-to, kept_here, kept_next, columns-to, columns-next}
 use Rattle.behaviour.proofs.Prepayment.{Before, flow-is, left_is, balance-within, none-alone-here, loan-sum}
 use Rattle.behaviour.proofs.loan.loan_column.Goals as goal
+use Rattle.behaviour.proofs.loan.loan_column.Goals.{In-loop-i}
 
--- what is known before a step
-before : (rates body : List ℕ) (k i : ℕ) {months principal charge outstanding remaining : ℕ}
-    → months ≡ width k → principal ≡ get_or (amounts_from body 3) k 0 → charge ≡ get_or (amounts_from body 79) k 0
-    → outstanding ≡ outstanding_at (get_or rates i 0) (amounts_from body 3) k → remaining ≡ scheduled_at (amounts_from body 3) k
-    → Before (get_or rates i 0) (amounts_from body 3) (amounts_from body 79) k months principal charge outstanding remaining
-before rates body k i m p h o r = record { months-are = m; principal-is = p; charge-is = h; outstanding-is = o; remaining-is = r }
+-- a course past the end of a list
+abbrev none : Course
+none = record { rate = 0; balance = record { 0 = 0 }; sum = record { 0 = 0 } }
 
 -- the sum so far, with a flow more
 grown : (rate k : ℕ) (principals interests : List ℕ) {before flow : ℕ} → before ≡ sum (loan_flow rate principals interests) k → flow ≡ loan_flow rate principals interests k
     → before + flow ≡ sum (loan_flow rate principals interests) (suc k)
 grown rate k principals interests b f = ap₂ ◌+◌ b f ∙ sym (sum_more _ k) ∙ ap (sum _) (add-one k)
 
-pub amount_of-scheduled-requires : goal.amount_of-scheduled-requires
-amount_of-scheduled-requires c = record { from_in_bounds = (search rules, search rules); at_most = c.requires.remaining_value.1.principals-small }
+-- ---- the course at hand
 
-pub amount_of-charge-requires : goal.amount_of-charge-requires
-amount_of-charge-requires c = record { from_in_bounds = (search rules, search rules); at_most = c.requires.remaining_value.1.interests-small }
+module _ (c : In-loop-i) where
+  abbrev course : Course
+  course = get_or c.loop-i.courses c.loop-i.i none
+
+  abbrev rate : ℕ
+  rate = get_or (rates c.args.courses.now) c.loop-i.i 0
+
+  rate-is : course.rate ≡ rate
+  rate-is =
+      sym (get_or-map (λ (x : Course). x.rate) c.loop-i.courses c.loop-i.i none) ∙ ap (λ (l : List ℕ). get_or l c.loop-i.i 0) c.loop-i.invariant.1
+
+  sum-is : course.sum.0 ≡ sum (loan_flow rate (amounts_from c.args.body.now 3) (amounts_from c.args.body.now 79)) c.args.k
+  sum-is =
+      sym (get_or-map (λ (x : Course). x.sum.0) c.loop-i.courses c.loop-i.i none) ∙ kept_here c.loop-i.invariant.0.added (omega arith)
+
+  before : Before rate (amounts_from c.args.body.now 3) (amounts_from c.args.body.now 79) c.args.k c.args.width c.amount_of.result.0 c.amount_of-2.result.0 course.balance.0 c.args.remaining.0
+  before = record {
+    months-are = c.requires.body_len.2;
+    principal-is = c.amount_of.ensures.0;
+    charge-is = c.amount_of-2.ensures.0;
+    outstanding-is = sym (get_or-map (λ (x : Course). x.balance.0) c.loop-i.courses c.loop-i.i none) ∙ kept_here c.loop-i.invariant.0.left (omega arith);
+    remaining-is = c.requires.remaining_value.0;
+  }
 
 pub loop-i-init : goal.loop-i-init
 loop-i-init c =
-    let reached = c.requires.loan_reached in
-    let none : (r : ℕ) → r < 3 → c.args.k ≡ passed c.args.k 0 r = λ r o. sym (passed_none c.args.k r) in
-    record { flows = columns-to none reached.flows; added = kept-to none reached.added; left = kept-to none reached.left }
+    let reached = c.requires.reached in
+    let nothing : (r : ℕ) → r < 3 → c.args.k ≡ passed c.args.k 0 r = λ r o. sym (passed_none c.args.k r) in
+    (record { flows = columns-to nothing reached.flows; added = kept-to nothing reached.added; left = kept-to nothing reached.left }, refl)
 
-pub bounds-balances-i : goal.bounds-balances-i
-bounds-balances-i c = omega (arith, c.loop-i.invariant.left.long)
-
-pub bucket_step-step-requires : goal.bucket_step-step-requires
-bucket_step-step-requires c =
-    let s = c.requires in
-    let b = before c.args.rates.now c.args.body.now c.args.k c.loop-i.i s.body_len.2 c.amount_of-scheduled.ensures.0 c.amount_of-charge.ensures.0
-    (kept_here c.loop-i.invariant.left (omega arith)) s.remaining_value.0 in
-    let within = balance-within _ _ _ b in
+pub invariant_of-bucket : goal.invariant_of-bucket
+invariant_of-bucket c =
+    let here = (goal.at.invariant_of-bucket c).In-loop-i in
+    let b = before here in
     record {
-      rate_le_whole_rate = (
-        s.body_len.4 c.loop-i.i,
-        rw s.body_len.2 (width-most c.args.k),
-        c.amount_of-charge.ensures.1,
-        within.0,
-        omega (arith, within.1, s.remaining_value.1.all_small),
-      );
-      is_value = none-alone-here _ _ _ b (s.remaining_value.1.none-alone c.args.k s.body_len.1);
+      narrow = rw c.requires.body_len.2 (width-most c.args.k);
+      charge_small = c.amount_of-2.ensures.1;
+      remaining_small = omega (arith, (balance-within _ _ _ b).1, c.requires.remaining_value.1.all_small);
+      none_alone = none-alone-here _ _ _ b (c.requires.remaining_value.1.none-alone c.args.k c.requires.body_len.1);
     }
 
-pub bounds-rows-at : goal.bounds-rows-at
-bounds-rows-at c = omega (arith, c.loop-i.invariant.flows.long)
-
-pub overflow_add-sums : goal.overflow_add-sums
-overflow_add-sums c =
-    let s = c.requires in
-    let rate = get_or c.args.rates.now c.loop-i.i 0 in
-    let principals = amounts_from c.args.body.now 3 in
-    let interests = amounts_from c.args.body.now 79 in
-    let b = before c.args.rates.now c.args.body.now c.args.k c.loop-i.i s.body_len.2 c.amount_of-scheduled.ensures.0 c.amount_of-charge.ensures.0
-    (kept_here c.loop-i.invariant.left (omega arith)) s.remaining_value.0 in
-    let flow = flow-is _ _ _ b _ c.bucket_step-step.ensures.flow_value in
-    let more = grown rate c.args.k principals interests (kept_here c.loop-i.invariant.added (omega arith)) flow in
-    let all = loan-sum rate principals interests (suc c.args.k) (omega (arith, s.body_len.1)) (amounts-few c.args.body.now 79) in
-    record { fits = omega (arith, more, all, s.remaining_value.1.all_small) }
+pub pass-requires : goal.pass-requires
+pass-requires c =
+    let here = (goal.at.pass-requires c).In-loop-i in
+    let schedule = c.requires.remaining_value.1 in
+    let all = loan-sum (rate here) (amounts_from c.args.body.now 3) (amounts_from c.args.body.now 79) c.args.k (omega arith) (amounts-few c.args.body.now 79) in
+    (omega (arith, rate-is here, c.requires.rates.1 c.loop-i.i), (balance-within _ _ _ (before here)).0, omega (arith, sum-is here, all, schedule.all_small))
 
 pub loop-i-preserved : goal.loop-i-preserved
 loop-i-preserved c =
-    let s = c.requires in
-    let reached = c.loop-i.invariant in
-    let rate = get_or c.args.rates.now c.loop-i.i 0 in
-    let principals = amounts_from c.args.body.now 3 in
-    let interests = amounts_from c.args.body.now 79 in
-    let b = before c.args.rates.now c.args.body.now c.args.k c.loop-i.i s.body_len.2 c.amount_of-scheduled.ensures.0 c.amount_of-charge.ensures.0
-    (kept_here c.loop-i.invariant.left (omega arith)) s.remaining_value.0 in
-    let flow = flow-is _ _ _ b _ c.bucket_step-step.ensures.flow_value in
-    record {
-      flows = columns-next _ reached.flows (omega arith) s.body_len.1 flow;
-      added = kept_next _ reached.added (omega arith)
-          (grown rate c.args.k principals interests (kept_here reached.added (omega arith)) flow);
-      left = kept_next _ reached.left (omega arith) (left_is _ _ _ b _ c.bucket_step-step.ensures.left_value);
-    }
+    let here = (goal.at.loop-i-preserved c).In-loop-i in
+    let at = c.loop-i in
+    let reached = at.invariant.0 in
+    let next = c.pass.new.self in
+    let b = before here in
+    let flow = flow-is _ _ _ b _ (rw (rate-is here) at c.pass.ensures.flow) in
+    let left = left_is _ _ _ b _ (rw (rate-is here) at c.pass.ensures.balance) in
+    let more = c.pass.ensures.sum ∙ grown (rate here) c.args.k (amounts_from c.args.body.now 3) (amounts_from c.args.body.now 79) (sum-is here) flow in (
+      record {
+        flows = columns-next _ reached.flows (omega arith) c.requires.body_len.1 flow;
+        added = rw (map-set (λ (x : Course). x.sum.0) at.courses at.i next) (kept_next _ reached.added (omega arith) more);
+        left = rw (map-set (λ (x : Course). x.balance.0) at.courses at.i next) (kept_next _ reached.left (omega arith) left);
+      },
+      map-set_same (λ (x : Course). x.rate) at.courses at.i next none c.pass.ensures.rate ∙ at.invariant.1,
+    )
 
-pub returns : goal.returns
-returns c =
+pub returns-clause-reached : goal.returns-clause-reached
+returns-clause-reached c =
     let last : c.loop-i.i ≡ 3 = omega arith in
-    let reached = rw last at c.loop-i.invariant in
+    let reached = rw last at c.loop-i.invariant.0 in
     let all = passed-all c.args.k in
-    record { flows = columns-to all reached.flows; added = kept-to all reached.added; left = kept-to all reached.left }
+    rw c.loop-i.invariant.1 (record { flows = columns-to all reached.flows; added = kept-to all reached.added; left = kept-to all reached.left })

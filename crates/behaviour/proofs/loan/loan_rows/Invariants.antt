@@ -1,10 +1,20 @@
--- What the loop of `loan_rows` keeps.
+-- What the loops of `loan_rows` keep: the courses at the buckets passed, and then the sums written.
 use mathlib.Core.Path.{◌≡◌}
-use Rattle.paper.specs.Behaviour.{scheduled_at}
+use lib.ListN.{get_or}
+use Rattle.laws.specs.Lists.{tabulate}
+use Rattle.laws.proofs.Filling.{Filled}
+use Rattle.paper.specs.Behaviour.{behavioural_rate, scheduled_at}
 use Rattle.fields.specs.Answers.{amounts_from}
-use Rattle.behaviour.specs.Columns.{LoanReached}
+use Rattle.behaviour.specs.Rows.{three_multipliers}
+use Rattle.behaviour.specs.Columns.{CoursesReached, rates, sums}
 use Rattle.behaviour.proofs.loan.loan_rows.Given as goal
 
 abbrev pub invariant-loop-k : goal.invariant-loop-k
-invariant-loop-k l =
-    LoanReached l.rates l.body (λ _. l.k) l.balances l.rows l.sums × (l.remaining.0 ≡ scheduled_at (amounts_from l.body 3) l.k)
+invariant-loop-k l = record {
+  at_rates : rates l.courses ≡ tabulate (behavioural_rate three_multipliers l.fn.share) 3;
+  reached : CoursesReached l.body (λ _. l.k) l.courses l.rows;
+  left : l.remaining.0 ≡ scheduled_at (amounts_from l.body 3) l.k;
+}
+
+abbrev pub invariant-loop-i : goal.invariant-loop-i
+invariant-loop-i l = Filled 0 l.i (λ r. get_or (sums l.course-items) r 0) l.sums

@@ -1,6 +1,6 @@
 use native.Mathlib.Omega.{arith}
 use Rattle.paper.specs.Behaviour.{prepaid}
-use Rattle.behaviour.proofs.loan.prepaid.Goals as goal
+use Rattle.behaviour.proofs.course.Scheduled.prepaid.Goals as goal
 
 pub returns : goal.returns
 unfolding prepaid

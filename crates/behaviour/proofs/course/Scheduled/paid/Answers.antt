@@ -1,6 +1,6 @@
 use native.Mathlib.Omega.{arith}
 use Rattle.paper.specs.Behaviour.{paid}
-use Rattle.behaviour.proofs.loan.paid.Goals as goal
+use Rattle.behaviour.proofs.course.Scheduled.paid.Goals as goal
 
 pub returns : goal.returns
 unfolding paid
