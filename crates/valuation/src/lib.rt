@@ -4,13 +4,13 @@
 ghost use Rattle.std.specs.Prelude.{◌≡◌, ◌≤◌};
 ghost use Rattle.paper.specs.Records.{currencies};
 ghost use Rattle.paper.specs.Verdict.{report_of};
-ghost use Rattle.factor.specs.Table.{rows};
 ghost use Rattle.arrays.specs.Masks.{curved_by};
 ghost use Rattle.arrays.specs.Rooms.{totals_by};
 ghost use Rattle.valuation.specs.Lengths.{ReportLengths};
 ghost use Rattle.valuation.specs.Bounds.{Bounds};
 
 use arrays::masks::{has_curve, last_of};
+use change::fill_currency;
 use paper::CHANGES;
 use scales::Thousands;
 
@@ -24,30 +24,19 @@ pub fn fill_report(
     add_ons: &[i64],
     curved: u32,
     tier1: Thousands,
-    table: &[[u64; 10]; 6],
     report: &mut [i64],
 )
     requires report_lengths { ReportLengths ledger.now rates.now add_ons.now report.old }
-    requires tier1_bound { (tier1.0 ≤ 1_000_000_000_000) × (table.now ≡ rows) }
+    requires tier1_bound { tier1.0 ≤ 1_000_000_000_000 }
     requires bounds { Bounds (totals_by ledger.now add_ons.now rates.now) (curved_by curved) }
     ensures { report.new ≡ report_of currencies (totals_by ledger.now add_ons.now rates.now) tier1.0 }
 {
-    let midpoints = ladder::midpoints();
     let mut changes = [0i64; CHANGES];
     let mut tolerances = [0i64; CHANGES];
     let last = last_of(curved) as usize;
     for c in 0..last {
         if has_curve(curved, c as u32 + 1) {
-            change::fill_currency(
-                ledger,
-                rates,
-                add_ons,
-                c,
-                &midpoints,
-                table,
-                &mut changes,
-                &mut tolerances,
-            );
+            fill_currency(ledger, rates, add_ons, c, &mut changes, &mut tolerances);
         }
     }
     report::write_report(&changes, &tolerances, last, tier1, report);

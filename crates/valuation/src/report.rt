@@ -12,7 +12,7 @@ ghost use Rattle.valuation.specs.Closing.{closing};
 use paper::{CHANGES, FIGURES, SHOCKED};
 use scales::Thousands;
 use verdict::measure::{Greatest, greatest_sum, scenario_sum};
-use verdict::verdict::{number_of, verdict_of};
+use verdict::verdict::verdict_of;
 
 // The six sums start where the changes end, and here the last four numbers.
 const CLOSING: usize = CHANGES + SHOCKED;
@@ -37,7 +37,7 @@ fn write_closing(worst: Greatest, tolerance: Thousands, tier1: Thousands, room: 
     room[0] = measure.0 as i64;
     room[1] = worst.scenario as i64;
     room[2] = tolerance.0 as i64;
-    room[3] = number_of(verdict_of(measure, tolerance, tier1));
+    room[3] = i64::from(verdict_of(measure, tolerance, tier1));
 }
 
 // The total tolerance is the measure of the tolerances.

@@ -8,18 +8,14 @@ ghost use Rattle.paper.specs.Verdict.{scenario_sum, measure, worst};
 ghost use Rattle.arrays.specs.Rooms.{listed};
 ghost use Rattle.verdict.specs.Figures.{Figures};
 
-use paper::SHOCKED;
+use paper::{SCENARIOS, SHOCKED};
 use scales::{SignedThousands, Thousands};
 
 // The loss, with no gain to set against it.
 fn positive(change: SignedThousands) -> Thousands
     ensures { result.0 ≡ up change.0 }
 {
-    if change.0 < 0 {
-        Thousands(0)
-    } else {
-        Thousands(change.0 as u64)
-    }
+    Thousands(change.0.max(0) as u64)
 }
 
 // A scenario's sum adds the positive changes over currencies.
@@ -49,12 +45,12 @@ pub fn greatest_sum(changes: &[i64], last: usize) -> Greatest
     ensures scenario_value { result.scenario ≡ worst currencies (listed changes.now) }
 {
     let mut greatest = Thousands(0);
-    let mut reached: u64 = 0;
-    for i in 0..SHOCKED {
-        let sum = scenario_sum(changes, last, i + 1);
+    let mut reached = 0;
+    for scenario in 1..SCENARIOS {
+        let sum = scenario_sum(changes, last, scenario);
         if greatest.0 < sum.0 {
             greatest = sum;
-            reached = (i + 1) as u64;
+            reached = scenario as u64;
         }
     }
     Greatest {

@@ -1,6 +1,6 @@
 // The verdict against Tier 1 capital.
-ghost use Rattle.std.specs.Prelude.{◌≡◌, ◌≤◌, pos};
-ghost use Rattle.paper.specs.Verdict.{verdict, verdict_number};
+ghost use Rattle.std.specs.Prelude.{◌≡◌, ◌≤◌};
+ghost use Rattle.paper.specs.Verdict.{verdict};
 ghost use Rattle.verdict.specs.Figures.{most_of_a_sum};
 
 use paper::Verdict;
@@ -21,14 +21,4 @@ pub fn verdict_of(measure: Thousands, tolerance: Thousands, tier1: Thousands) ->
         return Verdict::Within;
     }
     Verdict::Close
-}
-
-pub fn number_of(verdict: Verdict) -> i64
-    ensures { result ≡ pos (verdict_number verdict) }
-{
-    match verdict {
-        Verdict::Over => 1,
-        Verdict::Within => 2,
-        Verdict::Close => 3,
-    }
 }

@@ -26,7 +26,6 @@ all_done {t} curved {c} {last} b h k e d =
 
 pub loop-c-init : goal.loop-c-init
 loop-c-init c = (
-  omega arith,
   c.last_of-last.ensures,
   omega (arith, c.last_of-last.ensures, last-most c.args.curved),
   done_none (totals_by c.args.ledger.now c.args.add_ons.now c.args.rates.now),
@@ -34,11 +33,10 @@ loop-c-init c = (
 
 pub loop-c-preserved : goal.loop-c-preserved
 loop-c-preserved c =
-    let d = c.loop-c.invariant.3 in
+    let d = c.loop-c.invariant.2 in
     let tested = sym c.has_curve.ensures in (
-      omega arith,
+      c.loop-c.invariant.0,
       c.loop-c.invariant.1,
-      c.loop-c.invariant.2,
       elim c.if-has_curve.branch [
         | then-has_curve w ↦ done_more (omega arith) d (w.changes-is ∙ w.fill_currency.ensures.changes_after) (w.tolerances-is ∙ w.fill_currency.ensures.tolerances_after)
         | else-has_curve w ↦ rw (w.changes-is, w.tolerances-is) (done-skip (omega arith) d (c.requires.bounds.nothing (c.loop-c.c + 1) (omega arith) (omega arith) (tested ∙ w.if-has_curve.false)))
@@ -49,8 +47,8 @@ pub write_report-requires-clause-figures : goal.write_report-requires-clause-fig
 write_report-requires-clause-figures c =
     let curved = c.args.curved in
     let t = totals_by c.args.ledger.now c.args.add_ons.now c.args.rates.now in
-    let done : Done t currencies c.loop-c.changes c.loop-c.tolerances = all_done curved c.requires.bounds (omega arith) (omega arith) c.loop-c.invariant.1 c.loop-c.invariant.3 in
-    rw c.loop-c.invariant.1 (
+    let done : Done t currencies c.loop-c.changes c.loop-c.tolerances = all_done curved c.requires.bounds (omega arith) (omega arith) c.loop-c.invariant.0 c.loop-c.invariant.2 in
+    rw c.loop-c.invariant.0 (
       change-figures t _ c.requires.bounds (last_of curved) (last-most curved) (past-last curved) done,
       tolerance-figures t _ c.requires.bounds (last_of curved) (last-most curved) (past-last curved) done,
     )
@@ -59,5 +57,5 @@ pub returns : goal.returns
 returns c =
     let curved = c.args.curved in
     let t = totals_by c.args.ledger.now c.args.add_ons.now c.args.rates.now in
-    let done : Done t currencies c.loop-c.changes c.loop-c.tolerances = all_done curved c.requires.bounds (omega arith) (omega arith) c.loop-c.invariant.1 c.loop-c.invariant.3 in
+    let done : Done t currencies c.loop-c.changes c.loop-c.tolerances = all_done curved c.requires.bounds (omega arith) (omega arith) c.loop-c.invariant.0 c.loop-c.invariant.2 in
     c.write_report.ensures ∙ report-done t _ c.requires.bounds (last_of curved) (last-most curved) (past-last curved) done c.args.tier1.0

@@ -1,5 +1,5 @@
--- What the loop of `fill_report` keeps, and why it ends.
-use Prim.Native.Nat.{◌-◌, ◌≤◌}
+-- What the loop of `fill_report` keeps.
+use Prim.Native.Nat.{◌≤◌}
 use mathlib.Core.Path.{◌≡◌}
 use Rattle.paper.specs.Records.{currencies}
 use Rattle.arrays.specs.Masks.{last_of}
@@ -9,7 +9,4 @@ use Rattle.valuation.proofs.fill_report.Given as goal
 
 abbrev pub invariant-loop-c : goal.invariant-loop-c
 invariant-loop-c l =
-    (l.c ≤ l.last) × (l.last ≡ last_of l.curved) × (l.last ≤ currencies) × Done (totals_by l.ledger l.add_ons l.rates) l.c l.changes l.tolerances
-
-abbrev pub decreases-loop-c : goal.decreases-loop-c
-decreases-loop-c l = l.last - l.c
+    (l.last ≡ last_of l.curved) × (l.last ≤ currencies) × Done (totals_by l.ledger l.add_ons l.rates) l.c l.changes l.tolerances

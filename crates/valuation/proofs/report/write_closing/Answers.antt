@@ -17,6 +17,6 @@ returns c =
     let sum-is = to_z_pos w64 {n = worst.sum.0} (omega arith) in
     let scenario-is = to_z_pos w64 {n = worst.scenario} (omega arith) in
     let tolerance-is = to_z_pos w64 {n = c.args.tolerance.0} (omega arith) in
-    let verdict-is : to_z w64 (of_z w64 c.number_of.result) ≡ pos (verdict_number (verdict worst.sum.0 c.args.tolerance.0 c.args.tier1.0)) =
-    back w64 c.number_of.result c.number_of.type_inv ∙ c.number_of.ensures ∙ ap (λ (v : Verdict). pos (verdict_number v)) c.verdict_of.ensures in
+    let verdict-is : to_z w64 (of_z w64 c.from.result) ≡ pos (verdict_number (verdict worst.sum.0 c.args.tolerance.0 c.args.tier1.0)) =
+    back w64 c.from.result c.from.type_inv ∙ c.from.ensures ∙ ap (λ (v : Verdict). pos (verdict_number v)) c.verdict_of.ensures in
     rw (sum-is, scenario-is, tolerance-is, verdict-is) (four-stored c.args.room.now _ _ _ _ c.requires.tier1_bound.1)

@@ -19,7 +19,7 @@ pub loop-i-preserved : goal.loop-i-preserved
 loop-i-preserved c =
     let at = c.loop-i in
     let is = to_z_pos w64 {n = c.scenario_sum.result.0} (overflow_cast-room c).sfits ∙ ap pos c.scenario_sum.ensures in
-    (search rules, search rules, filled_next (pos 0) _ at.room at.i _ at.invariant.2 is (search rules))
+    filled_next (pos 0) _ at.room at.i _ at.invariant is (search rules)
 
 pub returns : goal.returns
-returns c = let at = c.loop-i in filled-from (pos 0) _ 1 at.room shocked at.invariant.1 (λ j o. at.invariant.2 j (omega arith))
+returns c = let at = c.loop-i in filled-from (pos 0) _ 1 at.room shocked (omega arith) (λ j o. at.invariant j (omega arith))

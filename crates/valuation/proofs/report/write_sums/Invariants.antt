@@ -1,18 +1,11 @@
--- What the loop of `write_sums` keeps, and why it ends.
-use Prim.Native.Nat.{◌+◌, ◌-◌, ◌≤◌}
-use mathlib.Core.Path.{◌≡◌}
+-- What the loop of `write_sums` keeps.
+use Prim.Native.Nat.{◌+◌}
 use lib.IntN.{pos}
-use lib.ListN.{length}
 use Rattle.laws.proofs.Filling.{Filled}
 use Rattle.paper.specs.Records.{currencies}
-use Rattle.paper.specs.Flow.{shocked}
 use Rattle.paper.specs.Verdict.{scenario_sum}
 use Rattle.arrays.specs.Rooms.{listed}
 use Rattle.valuation.proofs.report.write_sums.Given as goal
 
 abbrev pub invariant-loop-i : goal.invariant-loop-i
-invariant-loop-i l =
-    (l.i ≤ shocked) × (length l.room ≡ shocked) × Filled (pos 0) l.i (λ j. pos (scenario_sum currencies (listed l.changes) (j + 1))) l.room
-
-abbrev pub decreases-loop-i : goal.decreases-loop-i
-decreases-loop-i l = shocked - l.i
+invariant-loop-i l = Filled (pos 0) l.i (λ j. pos (scenario_sum currencies (listed l.changes) (j + 1))) l.room

@@ -38,9 +38,9 @@ overflow_add-total c =
     record { fits = omega (arith, total-is (goal.at.overflow_add-total c).After-positive, losses-most c.requires.figures c.args.scenario (c.loop-c.c + 1) (omega arith)) }
 
 pub loop-c-preserved : goal.loop-c-preserved
-loop-c-preserved c = (omega arith, total-is (goal.at.loop-c-preserved c).After-positive)
+loop-c-preserved c = total-is (goal.at.loop-c-preserved c).After-positive
 
 pub returns : goal.returns
 returns c =
     let e : c.loop-c.c ≡ c.args.last = omega arith in
-    (rw e at c.loop-c.invariant.1) ∙ losses-all c.requires.figures c.args.scenario
+    (rw e at c.loop-c.invariant) ∙ losses-all c.requires.figures c.args.scenario

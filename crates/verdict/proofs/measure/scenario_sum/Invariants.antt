@@ -1,5 +1,5 @@
--- What the loop of `scenario_sum` keeps, and why it ends.
-use Prim.Native.Nat.{suc, ◌-◌, ◌≤◌}
+-- What the loop of `scenario_sum` keeps.
+use Prim.Native.Nat.{suc}
 use mathlib.Core.Path.{◌≡◌}
 use Rattle.laws.specs.Integers.{up}
 use Rattle.laws.specs.Sums.{sum}
@@ -7,7 +7,4 @@ use Rattle.arrays.specs.Rooms.{listed}
 use Rattle.verdict.proofs.measure.scenario_sum.Given as goal
 
 abbrev pub invariant-loop-c : goal.invariant-loop-c
-invariant-loop-c l = (l.c ≤ l.last) × (l.total.0 ≡ sum (λ d. up (listed l.changes (suc d) l.scenario)) l.c)
-
-abbrev pub decreases-loop-c : goal.decreases-loop-c
-decreases-loop-c l = l.last - l.c
+invariant-loop-c l = l.total.0 ≡ sum (λ d. up (listed l.changes (suc d) l.scenario)) l.c
