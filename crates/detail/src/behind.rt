@@ -14,6 +14,7 @@ use paper::CURRENCIES;
 use text::page::Page;
 
 // The working arrays of the book's records, how many there are by currency and kind, and which currencies have a curve.
+#[derive(Drop)]
 pub struct Behind<'a> {
     pub ledger: &'a [i64],
     pub rates: &'a [i32],

@@ -9,6 +9,7 @@ use scales::Thousands;
 use text::page::Page;
 
 // Where the book stands: its measure, against Tier 1 capital.
+#[derive(Drop)]
 pub struct Standing {
     pub measure: Thousands,
     pub tier1: Thousands,

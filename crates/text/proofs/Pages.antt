@@ -35,7 +35,9 @@ copied-length at text part room e h =
     rw count (length-splice at (length text) room part (rw (length-section at (length text) room h) (ap length e)))
 
 -- what stands on a page that was new, when the room is given back
-pub on-new-page : {text l m : List ℕ} {new after : Page} {count : ℕ} → Adds text new after → new.written ≡ 0 → new.room.now ≡ l → count ≡ after.written → m ≡ after.room.now
-    → (count ≡ length text) × (m ≡ text ++ drop count l)
-on-new-page {text} {l} {m} {new} {after} {count} f none same counted left =
-    rw (counted, left, ← same) (wrote-first (rw none at f.wrote))
+pub on-new-page : {text l m : List ℕ} {new after : Page} {count most : ℕ} → Adds text new after → new.written ≡ 0 → new.room.now ≡ l → count ≡ after.written → length text ≤ most → m ≡ after.room.now
+    → ((count ≡ length text) × (count ≤ most)) × (m ≡ text ++ drop count l)
+on-new-page {text} {l} {m} {new} {after} {count} {most} f none same counted short left =
+    let first = wrote-first (rw none at f.wrote) in
+    let length_is = counted ∙ first.0 in
+    ((length_is, rw length_is short), rw (counted, left, ← same) first.1)

@@ -1,48 +1,59 @@
 -- The report's lines and what stands behind them, or the refusal's line.
-use mathlib.Core.Path.{refl, ◌∙◌}
+use Prim.Native.Nat.{ℕ}
+use mathlib.Core.List.{List, ◌++◌}
+use mathlib.Core.Path.{refl, ap, ◌∙◌}
 use native.Mathlib.Omega.{arith}
-use borrow.Author.Rules.{part_to_end}
+use borrow.Author.Rules.{rules, part_to_end}
+use lib.IntN.{pos}
+use lib.ListN.{length-append, get_or, drop}
 use mir.Syntax.{w64}
 use Rattle.laws.proofs.Widths.{back}
 use Rattle.paper.specs.Records.{currencies}
-use Rattle.paper.specs.Program.{printed}
-use Rattle.text.specs.Longest.{longest_text}
-use Rattle.text.proofs.Writing.{first-wrote, wrote_then, wrote-first}
+use Rattle.paper.specs.Ledger.{totals}
+use Rattle.paper.specs.Change.{change}
+use Rattle.paper.specs.Verdict.{measure, measure_at}
+use Rattle.paper.specs.Program.{capital_in, report_text}
+use Rattle.arrays.specs.Masks.{curved_by}
+use Rattle.text.proofs.Pages.{adds_then, on-new-page}
 use Rattle.printing.proofs.Printing.{stands-as, prints-report, prints-refusal}
-use Rattle.detailing.specs.Detailed.{longest_detail}
+use Rattle.detailing.specs.Detailed.{behind_kept, longest_detail}
 use Rattle.detailing.proofs.Detailing.{reports, refusal-detailed, report-detailed}
-use borrow.Author.Rules.{rules}
 use Rattle.detailing.proofs.print_detail.Goals as goal
 
-pub overflow_cast-measure : goal.overflow_cast-measure
-overflow_cast-measure c =
+pub overflow_cast-standing : goal.overflow_cast-standing
+overflow_cast-standing c =
     let r = reports _ _ c.answer.ensures _ c.in-Reported.is in
-    rw (back w64 _ c.measure-1.given, r.measure-is) (tt, record { fits = omega (arith, r.measure-fits) })
-
-pub slice_bounds-print_behind-count : goal.slice_bounds-print_behind-count
-slice_bounds-print_behind-count c =
-    (reports _ _ c.answer.ensures _ c.in-Reported.is).input-is.has-capital
-
-pub slice_bounds-print_behind-start : goal.slice_bounds-print_behind-start
-slice_bounds-print_behind-start c =
-    let long = (reports _ _ c.answer.ensures _ c.in-Reported.is).input-is.has-capital in
-    search rules
+    rw (back w64 (get_or c.answer.new.report (measure_at currencies) (pos 0)) (search rules), r.measure-is) (tt, record { fits = omega (arith, r.measure-fits) })
 
 pub capital_in-requires : goal.capital_in-requires
 capital_in-requires c =
     (reports _ _ c.answer.ensures _ c.in-Reported.is).input-is.has-capital
 
-pub print_behind-requires : goal.print_behind-requires
-print_behind-requires c =
-    let input = c.args.input.now in
-    let r = reports input _ c.answer.ensures _ c.in-Reported.is in
-    let capital = c.capital_in.ensures in record { book_len_bound = (rw (part_to_end input 8) r.input-is.book-fits, omega arith); measure_le_most_of_asum = (rw (back w64 _ c.measure-1.given, r.measure-is) r.measure-fits, rw capital r.input-is.capital-fits.0, rw capital r.input-is.capital-fits.1) }
+pub slice_bounds-put_behind-count : goal.slice_bounds-put_behind-count
+slice_bounds-put_behind-count c =
+    (reports _ _ c.answer.ensures _ c.in-Reported.is).input-is.has-capital
+
+pub slice_bounds-put_behind-start : goal.slice_bounds-put_behind-start
+slice_bounds-put_behind-start c =
+    let long = (reports _ _ c.answer.ensures _ c.in-Reported.is).input-is.has-capital in
+    search rules
+
+pub invariant_of-standing : goal.invariant_of-standing
+invariant_of-standing c =
+    let r = reports _ _ c.answer.ensures _ c.in-Reported.is in
+    rw (back w64 (get_or c.answer.new.report (measure_at currencies) (pos 0)) (search rules), r.measure-is, c.capital_in.ensures)
+    record { in_range = (r.measure-fits, r.input-is.capital-fits.0, r.input-is.capital-fits.1) }
+
+pub put_behind-requires-clause-book_len_bound : goal.put_behind-requires-clause-book_len_bound
+put_behind-requires-clause-book_len_bound c =
+    rw (part_to_end c.args.input.now 8) (reports _ _ c.answer.ensures _ c.in-Reported.is).input-is.book-fits
 
 pub returns-in-Refused : goal.returns-in-Refused
 returns-in-Refused c =
     let answered = c.answer.ensures in
     let refused = c.in-Refused.is in
-    let w = stands-as _ (prints-refusal _ _ answered refl _ refused ∙ refusal-detailed _ _ answered _ refused) (omega arith) (c.print_refusal.ensures.value, c.print_refusal.ensures.out_after) in record { value = w.0; out_after = w.1 }
+    let w = stands-as _ (prints-refusal _ _ answered refl _ refused ∙ refusal-detailed _ _ answered _ refused) (omega arith) (c.print_refusal.ensures.value, c.print_refusal.ensures.out_after) in
+    record { value = w.0; out_after = w.1 }
 
 pub returns-in-Reported : goal.returns-in-Reported
 returns-in-Reported c =
@@ -50,8 +61,11 @@ returns-in-Reported c =
     let answered = c.answer.ensures in
     let reported = c.in-Reported.is in
     let r = reports input _ answered _ reported in
-    let report = stands-as {more = longest_text} c.args.out.now (prints-report _ input answered refl _ reported refl) (omega arith) (c.write_report-next.ensures.value, c.write_report-next.ensures.out_after) in
-    let behind = rw (part_to_end input 8, back w64 _ c.measure-1.given, r.measure-is, c.capital_in.ensures) at (c.print_behind.ensures.wrote r.kept) in
-    let whole = wrote-first (wrote_then (first-wrote {text = printed currencies input} {l = c.args.out.now} report.0.0 report.1) (behind r.input-is.records)) in
-    let w = stands-as {most = longest_detail} _ (report-detailed input r) (omega arith) ((whole.0, omega (arith, report.0.1, c.print_behind.ensures.upper_bound)), whole.1) in
+    let is = back w64 (get_or c.answer.new.report (measure_at currencies) (pos 0)) (search rules) in
+    let behind = (rw (part_to_end input 8, is, r.measure-is, c.capital_in.ensures) at (c.put_behind.ensures r.kept)) r.input-is.records in
+    let lines = report_text currencies (curved_by c.in-Reported.curves) c.answer.new.report in
+    let more = behind_kept (drop 8 input) r.kept (measure currencies (change (totals r.kept))) (capital_in input) in
+    let all = ap (λ (l : List ℕ). l ++ more) (prints-report _ input answered refl _ reported refl) ∙ report-detailed input r in
+    let whole = on-new-page {most = longest_detail} (adds_then c.report.ensures.0 behind.0) c.new-page.ensures.nothing_written c.new-page.ensures.as_it_was c.written.ensures (omega (arith, length-append lines more, c.report.ensures.1, behind.1)) (search rules) in
+    let w = stands-as c.args.out.now all (omega arith) whole in
     record { value = w.0; out_after = w.1 }

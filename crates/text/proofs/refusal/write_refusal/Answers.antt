@@ -11,8 +11,6 @@ use Rattle.text.proofs.refusal.write_refusal.Goals as goal
 pub returns : goal.returns
 unfolding refusal_text
 returns c =
-    let whole = on-new-page c.line.ensures c.new-page.ensures.nothing_written c.new-page.ensures.as_it_was c.written.ensures (search rules) in
-    record {
-      value = (whole.0, omega (arith, whole.0, line-length 82 (pos c.args.number ∷ pos c.args.place ∷ [])));
-      out_after = whole.1;
-    }
+    let short = line-length 82 (pos c.args.number ∷ pos c.args.place ∷ []) in
+    let whole = on-new-page {most = 64} c.line.ensures c.new-page.ensures.nothing_written c.new-page.ensures.as_it_was c.written.ensures (omega arith) (search rules) in
+    record { value = whole.0; out_after = whole.1 }

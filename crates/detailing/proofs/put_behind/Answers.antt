@@ -1,6 +1,5 @@
 -- The arrays are those of the records kept, and the counts those of their places.
 use mathlib.Core.Path.{sym, ap, ◌∙◌}
-use native.Mathlib.Omega.{arith}
 use lib.ListN.{length}
 use Rattle.paper.specs.Detail.{places}
 use Rattle.paper.proofs.Detail.{never}
@@ -8,18 +7,17 @@ use Rattle.arrays.proofs.More.{nothing-kept}
 use Rattle.book.proofs.Outcome.{all-sized, bounds-hold}
 use Rattle.tally.proofs.Progress.{counts-long}
 use Rattle.detailing.proofs.KeptText.{loaded-text}
-use Rattle.detailing.proofs.print_behind.Goals as goal
+use Rattle.detailing.proofs.put_behind.Goals as goal
 
 pub load-requires : goal.load-requires
 load-requires c =
     sym nothing-kept
 
-pub put_behind-requires : goal.put_behind-requires
-put_behind-requires c =
+pub invariant_of-behind : goal.invariant_of-behind
+invariant_of-behind c =
     let loads = c.load.ensures in
     let all = loads.all _ c.in-Kept.is in
     let sized = all-sized _ _ _ loads.arrays all in record {
-      longest_behind_in_bounds = omega arith;
       lengths = record {
         ledger-long = sized.ledger-long;
         rates-long = sized.rates-long;
@@ -27,17 +25,17 @@ put_behind-requires c =
         counts-long = ap length c.tally-count.ensures.counts_after ∙ counts-long c.args.book.now (places c.args.book.now);
       };
       bounds = bounds-hold _ _ _ loads.arrays all;
-      measure_le_most_of_asum = c.requires.measure_le_most_of_asum;
     }
 
 pub returns-in-Refused : goal.returns-in-Refused
 returns-in-Refused c =
     let stopped = c.load.ensures.stopped _ c.in-Refused.is in
-    record { upper_bound = omega arith; wrote = λ kept e. never (sym stopped ∙ e) }
+    λ kept e. never (sym stopped ∙ e)
 
 pub returns-in-Kept : goal.returns-in-Kept
 returns-in-Kept c =
     let loads = c.load.ensures in
     let all = loads.all _ c.in-Kept.is in
     let counted = c.tally-count.ensures in
-    record { upper_bound = c.put_behind.ensures.1; wrote = λ kept e. rw (sym (loaded-text c.args.book.now _ loads.arrays _ all _ _ c.args.measure.0 c.args.tier1.0 kept counted.counts_after counted.value e)) c.put_behind.ensures.0 }
+    let standing = c.args.standing.now in
+    λ kept e. rw (sym (loaded-text c.args.book.now _ loads.arrays _ all _ _ standing.measure.0 standing.tier1.0 kept counted.counts_after counted.value e)) (c.put.ensures.text, c.put.ensures.longest)
