@@ -52,7 +52,10 @@ pub fn times(text: &[u8]) -> Option<(usize, &[u8])>
     let Some(number) = text.strip_prefix(b"*") else {
         return Some((1, text));
     };
-    let length = number.iter().take_while(|byte| byte.is_ascii_digit()).count();
+    let length = number
+        .iter()
+        .take_while(|byte| byte.is_ascii_digit())
+        .count();
     let (digits, rest) = number.split_at(length);
     let count = str::from_utf8(digits).ok()?.parse().ok()?;
     if count == 0 {
