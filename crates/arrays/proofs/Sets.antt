@@ -7,11 +7,12 @@ use mathlib.Core.Path.{◌≡◌, refl, sym, ap, ap₂, ◌∙◌}
 use native.Mathlib.Decide.{ℕ_discrete}
 use native.Mathlib.Numerals.{add-one}
 use native.Mathlib.Omega.{arith}
-use borrow.Author.Tests.{eq-eqb, ne_eqb}
+use borrow.Author.Tests.{eq-eqb, ne_eqb, leb-true, leb-false}
 use lib.Bits.{bit_and}
 use lib.Count.{count_trailing_zeros}
-use Rattle.std.specs.Prelude.{if◌then◌else◌}
-use Rattle.laws.specs.Tests.{◌is◌, first}
+use Rattle.std.specs.Prelude.{Some, None, if◌then◌else◌}
+use Rattle.std.specs.Bool.{then_some}
+use Rattle.laws.specs.Tests.{◌is◌, ◌up_to◌, first}
 use Rattle.laws.specs.Digits.{has}
 use Rattle.laws.specs.Sums.{some}
 use Rattle.laws.proofs.Tests.{Stops, first_stops, stops-once, first-ext}
@@ -22,7 +23,7 @@ use Rattle.paper.specs.Ledger.{used, curved}
 use Rattle.paper.specs.TurnedDown.{lacks_curve}
 use Rattle.paper.proofs.Walk.{curved-more}
 use Rattle.arrays.specs.declared.masks.Masks.{Masks}
-use Rattle.arrays.specs.Masks.{curved_by, MaskOf, with_currency, marked_by, marked, lowest_missing}
+use Rattle.arrays.specs.Masks.{curved_by, MaskOf, with_currency, marked_by, marked, lowest_missing, missing_in}
 
 -- a set of currencies has one mask
 pub one-mask : {curves other : ℕ} {set : ℕ → Bool} → MaskOf curves set → MaskOf other set → curves ≡ other
@@ -136,3 +137,18 @@ module _ (m : Masks) (kept : List Record) (s : MasksOf m kept) where
         holds = λ n. absurd (omega arith);
       } in
       stops-once (first_stops (lacks_curve kept) 1 currencies) there
+
+module _ (m : Masks) where
+  by_test : (b : Bool) {n : ℕ} → (lowest_missing m up_to currencies) ≡ b → Some n ≡ then_some b (lowest_missing m) → (n ≡ lowest_missing m) × (lowest_missing m ≤ currencies)
+  by_test true {n} t e = let same : n ≡ lowest_missing m = cc in (same, leb-true (lowest_missing m) currencies t)
+  by_test false t e = let z : ◌≡◌ {A = ℕ} 0 1 = cc in absurd (omega arith)
+
+  none_by : (b : Bool) → (lowest_missing m up_to currencies) ≡ b → None ≡ then_some b (lowest_missing m) → currencies < lowest_missing m
+  none_by true t e = let z : ◌≡◌ {A = ℕ} 0 1 = cc in absurd (omega arith)
+  none_by false t e = leb-false (lowest_missing m) currencies t
+
+  pub some-missing : {n : ℕ} → Some n ≡ missing_in m → (n ≡ lowest_missing m) × (lowest_missing m ≤ currencies)
+  some-missing = by_test (lowest_missing m up_to currencies) refl
+
+  pub none-is-missing : None ≡ missing_in m → currencies < lowest_missing m
+  none-is-missing = none_by (lowest_missing m up_to currencies) refl

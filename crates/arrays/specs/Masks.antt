@@ -1,7 +1,8 @@
 -- Sets of currencies as masks: the currency c is the binary digit c - 1.
-use Rattle.std.specs.Prelude.{ℕ, suc, ◌-◌, ◌^◌, ◌≤◌, ◌<◌, Bool, not, ◌&&◌, ◌≡◌, if◌then◌else◌}
+use Rattle.std.specs.Prelude.{ℕ, suc, ◌-◌, ◌^◌, ◌≤◌, ◌<◌, Bool, not, ◌&&◌, ◌≡◌, Option, if◌then◌else◌}
+use Rattle.std.specs.Bool.{then_some}
 use Rattle.std.specs.Int.Bits.{bit_or}
-use Rattle.laws.specs.Tests.{first}
+use Rattle.laws.specs.Tests.{◌up_to◌, first}
 use Rattle.laws.specs.Digits.{has}
 use Rattle.laws.specs.Sums.{greatest}
 use Rattle.paper.specs.Records.{Record, currencies, currency_of, is_curve}
@@ -35,3 +36,7 @@ last_of mask = greatest (λ c. if curved_by mask c then c else 0) currencies
 -- the lowest currency of the first set that is none of the second, by the digits
 unfoldable pub lowest_missing : Masks → ℕ
 lowest_missing m = suc (first (λ i. has m.used i && not (has m.curved i)) 0 32)
+
+-- the same where there is one, among the currencies
+abbrev pub missing_in : Masks → Option ℕ
+missing_in m = then_some (lowest_missing m up_to currencies) (lowest_missing m)

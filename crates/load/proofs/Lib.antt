@@ -1,5 +1,6 @@
 -- the walk's invariant, and its end
 pub mod Invariant
+-- a turn of the walk
 pub mod WalkLaws
 -- 15
 pub mod LoadLaws

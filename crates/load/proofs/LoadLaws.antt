@@ -4,33 +4,32 @@ use mathlib.Core.List.{List}
 use mathlib.Core.Path.{◌≡◌, sym, ap, ◌∙◌}
 use native.Mathlib.Omega.{arith}
 use borrow.Author.Tests.{le-leb}
-use Rattle.laws.specs.Tests.{first}
+use Rattle.std.specs.Prelude.{Some, None, Result, Ok, Err}
+use Rattle.laws.specs.Tests.{◌up_to◌, first}
 use Rattle.paper.specs.declared.Refusal.TheVariants.{NoCurve}
 use Rattle.paper.specs.declared.Fault.{Fault}
-use Rattle.paper.specs.Refusals.{Checked, refused, ◌>>=◌, unless}
+use Rattle.paper.specs.Refusals.{Checked, refused, ◌>>=◌, unless, fault}
 use Rattle.paper.specs.Records.{Record, currencies}
 use Rattle.paper.specs.TurnedDown.{lacks_curve}
 use Rattle.paper.specs.Book.{covered}
 use Rattle.arrays.specs.declared.masks.Masks.{Masks}
-use Rattle.arrays.specs.Masks.{lowest_missing}
+use Rattle.arrays.specs.Masks.{lowest_missing, missing_in}
 use Rattle.arrays.specs.Arrays.{Arrays, arrays_of}
-use Rattle.arrays.proofs.Sets.{MasksOf, missing-found, missing-none}
-use Rattle.turn.specs.declared.Walked.TheVariants as walked
-use Rattle.load.specs.declared.Loaded.TheVariants as loaded
+use Rattle.arrays.proofs.Sets.{MasksOf, missing-found, missing-none, some-missing, none-is-missing}
 use Rattle.load.specs.Walk.{kept_in, AllKept, Walks}
 use Rattle.load.specs.Load.{of_records, Loads}
 
-kept-once : {m n : ℕ} → loaded.Kept m ≡ loaded.Kept n → m ≡ n
+kept-once : {m n : ℕ} → ◌≡◌ {A = Result ℕ Fault} (Ok m) (Ok n) → m ≡ n
 kept-once e = cc
 
-refused-once : {f g : Fault} → loaded.Refused f ≡ loaded.Refused g → f ≡ g
+refused-once : {f g : Fault} → ◌≡◌ {A = Result ℕ Fault} (Err f) (Err g) → f ≡ g
 refused-once e = cc
 
-never : {B : Type 0} {m : ℕ} {f : Fault} → loaded.Kept m ≡ loaded.Refused f → B
+never : {B : Type 0} {m : ℕ} {f : Fault} → ◌≡◌ {A = Result ℕ Fault} (Ok m) (Err f) → B
 never e = let z : ◌≡◌ {A = ℕ} 0 1 = cc in absurd (omega arith)
 
 -- refused for a cause at a place, whichever part of 01 says so
-turned_down-loads : (book : List ℕ) (f : Fault) (a : Arrays) → a ≡ arrays_of (kept_in book) → of_records book ≡ refused f.cause f.place → Loads book (loaded.Refused f) a
+turned_down-loads : (book : List ℕ) (f : Fault) (a : Arrays) → a ≡ arrays_of (kept_in book) → of_records book ≡ refused f.cause f.place → Loads book (Err f) a
 turned_down-loads book f a holds e = record {
   arrays = holds;
   all = λ curves u. never (sym u);
@@ -38,11 +37,11 @@ turned_down-loads book f a holds e = record {
 }
 
 module _ (book : List ℕ) {answer : _} {a : Arrays} (w : Walks book answer a) where
-  pub load-refused : (f : Fault) → answer ≡ walked.Refused f → Loads book (loaded.Refused f) a
+  pub load-refused : (f : Fault) → answer ≡ Err f → Loads book (Err f) a
   unfolding ◌>>=◌
   load-refused f e = turned_down-loads book f a w.arrays (ap (λ (x : Checked (List Record)). x >>= covered currencies) (w.stopped f e))
 
-  module _ (m : Masks) (e : answer ≡ walked.All m) where
+  module _ (m : Masks) (e : answer ≡ Ok m) where
     kept-all : AllKept book m
     kept-all = w.all m e
 
@@ -50,17 +49,18 @@ module _ (book : List ℕ) {answer : _} {a : Arrays} (w : Walks book answer a) w
     sets = record { used-is = kept-all.used-is; curved-is = kept-all.curved-is }
 
     -- 15
-    pub load-missing : {missing : ℕ} → missing ≡ lowest_missing m → missing ≤ currencies → Loads book (loaded.Refused (record { cause = NoCurve; place = missing })) a
+    pub load-missing : {missing : ℕ} → Some missing ≡ missing_in m → Loads book (Err (fault NoCurve missing)) a
     unfolding ◌>>=◌ covered unless
-    load-missing lowest l =
-        let found : first (lacks_curve (kept_in book)) 1 currencies ≡ lowest_missing m = missing-found m (kept_in book) sets (omega arith) in
-        turned_down-loads book _ a w.arrays (rw (kept-all.walked, found, sym lowest, le-leb _ currencies l))
+    load-missing there =
+        let lowest = some-missing m there in
+        let found : first (lacks_curve (kept_in book)) 1 currencies ≡ lowest_missing m = missing-found m (kept_in book) sets lowest.1 in
+        turned_down-loads book _ a w.arrays (rw (kept-all.walked, found, lowest.0, le-leb _ currencies lowest.1))
 
-    pub load-all : {missing : ℕ} → missing ≡ lowest_missing m → currencies < missing → Loads book (loaded.Kept m.curved) a
+    pub load-all : None ≡ missing_in m → Loads book (Ok m.curved) a
     unfolding ◌>>=◌ covered unless
-    load-all lowest l =
+    load-all nowhere =
         let k = kept-all in
-        let none : first (lacks_curve (kept_in book)) 1 currencies ≡ suc currencies = missing-none m (kept_in book) sets (omega arith) in
+        let none : first (lacks_curve (kept_in book)) 1 currencies ≡ suc currencies = missing-none m (kept_in book) sets (none-is-missing m nowhere) in
         record {
           arrays = w.arrays;
           all = λ curves u. record {

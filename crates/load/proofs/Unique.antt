@@ -3,14 +3,13 @@ use Prim.Native.Nat.{ℕ}
 use mathlib.Core.List.{List}
 use mathlib.Core.Path.{◌≡◌, refl, sym, ap, ap₂, ◌∙◌}
 use native.Mathlib.Omega.{arith}
+use Rattle.std.specs.Prelude.{Result, Ok, Err}
 use Rattle.paper.specs.declared.Refusal.{Refusal}
 use Rattle.paper.specs.declared.Fault.{Fault}
 use Rattle.paper.specs.Refusals.{Checked, refused}
 use Rattle.paper.specs.Records.{Record}
 use Rattle.arrays.specs.Arrays.{Arrays}
 use Rattle.arrays.proofs.Sets.{one-mask}
-use Rattle.load.specs.declared.Loaded.{Loaded}
-use Rattle.load.specs.declared.Loaded.TheVariants.{Kept, Refused}
 use Rattle.load.specs.Load.{AllLoaded, Loads}
 
 -- where all records are kept, the mask is that of the records
@@ -23,12 +22,12 @@ same-fault {f} {g} e =
     let place : f.place ≡ g.place = cc in
     ap₂ (λ (c : Refusal) (n : ℕ). record { cause = c; place = n }) cause place
 
-one_answer : {book : List ℕ} {a b : Arrays} (x y : Loaded) → Loads book x a → Loads book y b → x ≡ y
-one_answer (Kept m) (Kept n) p q = ap Kept (one_end (p.all m refl) (q.all n refl))
-one_answer (Kept m) (Refused f) p q = let e = sym (p.all m refl).loaded ∙ q.stopped f refl in let z : ◌≡◌ {A = ℕ} 0 1 = cc in absurd (omega arith)
-one_answer (Refused f) (Kept m) p q = let e = sym (q.all m refl).loaded ∙ p.stopped f refl in let z : ◌≡◌ {A = ℕ} 0 1 = cc in absurd (omega arith)
-one_answer (Refused f) (Refused g) p q = ap Refused (same-fault (sym (p.stopped f refl) ∙ q.stopped g refl))
+one_answer : {book : List ℕ} {a b : Arrays} (x y : Result ℕ Fault) → Loads book x a → Loads book y b → x ≡ y
+one_answer (Ok m) (Ok n) p q = ap Ok (one_end (p.all m refl) (q.all n refl))
+one_answer (Ok m) (Err f) p q = let e = sym (p.all m refl).loaded ∙ q.stopped f refl in let z : ◌≡◌ {A = ℕ} 0 1 = cc in absurd (omega arith)
+one_answer (Err f) (Ok m) p q = let e = sym (q.all m refl).loaded ∙ p.stopped f refl in let z : ◌≡◌ {A = ℕ} 0 1 = cc in absurd (omega arith)
+one_answer (Err f) (Err g) p q = ap Err (same-fault (sym (p.stopped f refl) ∙ q.stopped g refl))
 
 -- the answer is one, and so is what is left in the arrays, after a refusal too
-pub one-load : {book : List ℕ} {a b : Arrays} (x y : Loaded) → Loads book x a → Loads book y b → (x ≡ y) × (a ≡ b)
+pub one-load : {book : List ℕ} {a b : Arrays} (x y : Result ℕ Fault) → Loads book x a → Loads book y b → (x ≡ y) × (a ≡ b)
 one-load x y p q = (one_answer x y p q, p.arrays ∙ sym q.arrays)

@@ -1,5 +1,5 @@
 -- What the records of a book come to, the walk and then 15, and what is left in the arrays.
-use Rattle.std.specs.Prelude.{ℕ, List, ◌≡◌}
+use Rattle.std.specs.Prelude.{ℕ, List, ◌≡◌, Result, Ok, Err}
 use Rattle.paper.specs.declared.Fault.{Fault}
 use Rattle.paper.specs.Refusals.{Checked, accepted, refused, ◌>>=◌}
 use Rattle.paper.specs.Records.{Record, currencies}
@@ -7,8 +7,6 @@ use Rattle.paper.specs.Ledger.{curved}
 use Rattle.paper.specs.Book.{walk, covered}
 use Rattle.arrays.specs.Masks.{MaskOf}
 use Rattle.arrays.specs.Arrays.{Arrays, arrays_of}
-use Rattle.load.specs.declared.Loaded.{Loaded}
-use Rattle.load.specs.declared.Loaded.TheVariants.{Kept, Refused}
 use Rattle.load.specs.Walk.{kept_in}
 
 -- the part of the outcome that 16 to 18 leave to the records
@@ -20,7 +18,7 @@ pub record AllLoaded (book : List ℕ) (curves : ℕ) : Type 0 where
   pub curved-is : MaskOf curves (curved (kept_in book))
 
 -- whatever the answer, the arrays are those of the records kept
-pub record Loads (book : List ℕ) (answer : Loaded) (a : Arrays) : Type 0 where
+pub record Loads (book : List ℕ) (answer : Result ℕ Fault) (a : Arrays) : Type 0 where
   pub arrays : a ≡ arrays_of (kept_in book)
-  pub all : (curves : ℕ) → answer ≡ Kept curves → AllLoaded book curves
-  pub stopped : (f : Fault) → answer ≡ Refused f → of_records book ≡ refused f.cause f.place
+  pub all : (curves : ℕ) → answer ≡ Ok curves → AllLoaded book curves
+  pub stopped : (f : Fault) → answer ≡ Err f → of_records book ≡ refused f.cause f.place

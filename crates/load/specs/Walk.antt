@@ -1,5 +1,5 @@
 -- What the walk over a book's records answers, and what it leaves in the arrays.
-use Rattle.std.specs.Prelude.{ℕ, zero, suc, List, [], ◌∷◌, ◌++◌, ◌≡◌, length, if◌then◌else◌}
+use Rattle.std.specs.Prelude.{ℕ, zero, suc, List, [], ◌∷◌, ◌++◌, ◌≡◌, length, Result, Ok, Err, if◌then◌else◌}
 use Rattle.laws.specs.Tests.{◌up_to◌}
 use Rattle.paper.specs.declared.Fault.{Fault}
 use Rattle.paper.specs.Refusals.{Checked, accepted, refused}
@@ -9,8 +9,6 @@ use Rattle.paper.specs.Book.{record_at, next_at, walk}
 use Rattle.arrays.specs.declared.masks.Masks.{Masks}
 use Rattle.arrays.specs.Masks.{MaskOf}
 use Rattle.arrays.specs.Arrays.{Arrays, arrays_of}
-use Rattle.turn.specs.declared.Walked.{Walked}
-use Rattle.turn.specs.declared.Walked.TheVariants.{All, Refused}
 
 -- a refused record ends the walk with the records kept before it
 abbrev pub or_else : List Record → Checked Record → (Record → List Record) → List Record
@@ -34,7 +32,7 @@ pub record AllKept (book : List ℕ) (m : Masks) : Type 0 where
   pub curved-is : MaskOf m.curved (curved (kept_in book))
 
 -- whatever the answer, the arrays are those of the records kept
-pub record Walks (book : List ℕ) (answer : Walked) (a : Arrays) : Type 0 where
+pub record Walks (book : List ℕ) (answer : Result Masks Fault) (a : Arrays) : Type 0 where
   pub arrays : a ≡ arrays_of (kept_in book)
-  pub all : (m : Masks) → answer ≡ All m → AllKept book m
-  pub stopped : (f : Fault) → answer ≡ Refused f → walk currencies book ≡ refused f.cause f.place
+  pub all : (m : Masks) → answer ≡ Ok m → AllKept book m
+  pub stopped : (f : Fault) → answer ≡ Err f → walk currencies book ≡ refused f.cause f.place

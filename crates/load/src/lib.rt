@@ -6,20 +6,12 @@ ghost use Rattle.arrays.specs.Arrays.{arrays_of};
 ghost use Rattle.arrays.specs.Lent.{lent, after};
 ghost use Rattle.load.specs.Load.{Loads};
 
-use arrays::masks::lowest_missing;
-use paper::{CURRENCIES, Fault, Refusal};
-use turn::Walked;
+use paper::{Fault, Refusal};
 use walk::walk;
 
 mod walk;
 
-// The records are kept, and these currencies have a curve, as a mask; or the book is turned down for a cause at a place.
-#[derive(Clone, Copy)]
-pub enum Loaded {
-    Kept(u32),
-    Refused(Fault),
-}
-
+// Which currencies have a curve, as a mask, where all records are kept.
 pub fn load(
     book: &[u8],
     ledger: &mut [i64],
@@ -27,21 +19,16 @@ pub fn load(
     addons: &mut [i64],
     sizes: &mut [u64],
     options: &mut [u64],
-) -> Loaded
+) -> Result<u32, Fault>
     requires { lent ledger rates addons sizes options ≡ arrays_of [] }
     ensures { Loads book.now result (after ledger rates addons sizes options) }
 {
-    match walk(book, ledger, rates, addons, sizes, options) {
-        Walked::Refused(fault) => Loaded::Refused(fault),
-        Walked::All(masks) => {
-            let missing = lowest_missing(masks);
-            if missing <= CURRENCIES as u32 {
-                return Loaded::Refused(Fault {
-                    cause: Refusal::NoCurve,
-                    place: missing as usize,
-                });
-            }
-            Loaded::Kept(masks.curved)
-        }
+    let masks = walk(book, ledger, rates, addons, sizes, options)?;
+    match masks.lowest_missing() {
+        Some(missing) => Err(Fault {
+            cause: Refusal::NoCurve,
+            place: missing as usize,
+        }),
+        None => Ok(masks.curved),
     }
 }

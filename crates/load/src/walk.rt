@@ -4,10 +4,11 @@ ghost use Rattle.arrays.specs.Arrays.{arrays_of};
 ghost use Rattle.arrays.specs.Lent.{lent, after};
 ghost use Rattle.load.specs.Walk.{Walks};
 
-use reader::{moved, new, next};
-use turn::{Walked, turn};
+use arrays::masks::Masks;
+use paper::Fault;
+use reader::Reader;
+use turn::take_record;
 
-// The masks are two numbers here and no struct, so that each has a register of its own.
 pub fn walk(
     book: &[u8],
     ledger: &mut [i64],
@@ -15,32 +16,13 @@ pub fn walk(
     addons: &mut [i64],
     sizes: &mut [u64],
     options: &mut [u64],
-) -> Walked
+) -> Result<Masks, Fault>
     requires { lent ledger rates addons sizes options ≡ arrays_of [] }
     ensures { Walks book.now result (after ledger rates addons sizes options) }
 {
-    let mut reader = new(book);
-    let mut used: u32 = 0;
-    let mut curved: u32 = 0;
-    loop {
-        let step = turn(
-            next(reader),
-            reader.book,
-            reader.at,
-            used,
-            curved,
-            ledger,
-            rates,
-            addons,
-            sizes,
-            options,
-        );
-        if step.on {
-            reader = moved(reader, step.next);
-            used = step.used;
-            curved = step.curved;
-        } else {
-            return step.answer;
-        }
+    let mut masks = Masks { used: 0, curved: 0 };
+    for found in Reader::new(book) {
+        masks = take_record(found?, book, masks, ledger, rates, addons, sizes, options)?;
     }
+    Ok(masks)
 }

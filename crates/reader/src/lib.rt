@@ -1,64 +1,67 @@
-// The book is walked record by record, first byte to last: a reader holds the lent book and its position. Its functions take it apart; the work is done on
-// slice and number by `stands_at`.
+// The book is walked record by record, first byte to last: a reader holds the lent book and its position. The work is done on slice and number by `stands_at`.
 #![tactic(auto)]
 
 ghost use Rattle.std.specs.Prelude.{◌≡◌};
-ghost use Rattle.reader.specs.Reader.{stands_at};
+ghost use Rattle.reader.specs.Reader.{stands_at, Reads, bytes_left};
 
 use kinds::body_length;
+use paper::{Fault, Refusal};
 
-#[derive(Clone, Copy)]
+#[derive(Drop)]
 pub struct Reader<'a> {
-    pub book: &'a [u8],
-    pub at: usize,
+    book: &'a [u8],
+    at: usize,
 }
 
-// What stands at a position. A record is told by its kind, where its body begins, and where it ends, which is the place of the next.
+// A whole record is told by its kind, its first byte, and where it ends, which is the place of the next.
 #[derive(Clone, Copy)]
-pub enum Found {
-    End,
-    UnknownKind,
-    CutShort,
-    Record(u8, usize, usize),
+pub struct Found {
+    pub kind: u8,
+    pub at: usize,
+    pub next: usize,
 }
 
-fn stands_at(book: &[u8], at: usize) -> Found
+// Nothing at the book's end.
+fn stands_at(book: &[u8], at: usize) -> Option<Result<Found, Fault>>
     ensures { result ≡ stands_at book.now at }
 {
-    if book.len() <= at {
-        return Found::End;
-    }
-    let kind = book[at];
+    let kind = *book.get(at)?;
     let bytes = body_length(kind);
     if bytes == 0 {
-        return Found::UnknownKind;
+        let cause = Refusal::UnknownKind;
+        return Some(Err(Fault { cause, place: at }));
     }
     let start = at + 1;
     let next = start + bytes;
     if book.len() < next {
-        return Found::CutShort;
+        let cause = Refusal::CutShort;
+        return Some(Err(Fault { cause, place: at }));
     }
-    Found::Record(kind, start, next)
+    Some(Ok(Found { kind, at, next }))
 }
 
-pub fn new<'a>(book: &'a [u8]) -> Reader<'a>
-    ensures { (result.book ≡ book.entry) × (result.at ≡ 0) }
-{
-    Reader { book, at: 0 }
+impl<'a> Reader<'a> {
+    pub fn new(book: &'a [u8]) -> Reader<'a>
+        ensures { (result.book ≡ book.entry) × (result.at ≡ 0) }
+    {
+        Reader { book, at: 0 }
+    }
 }
 
-pub fn next<'a>(reader: Reader<'a>) -> Found
-    ensures { result ≡ stands_at reader.entry.book.now reader.entry.at }
-{
-    stands_at(reader.book, reader.at)
-}
+// The records, each where the one before it ends; or 1 or 2, after which nothing more comes.
+impl<'a> Iterator for Reader<'a> {
+    type Item = Result<Found, Fault>;
 
-// Past a record: to where it ends.
-pub fn moved<'a>(reader: Reader<'a>, past: usize) -> Reader<'a>
-    ensures { (result.book ≡ reader.entry.book) × (result.at ≡ past) }
-{
-    Reader {
-        book: reader.book,
-        at: past,
+    ghost next_gives = { Reads };
+
+    ghost remaining = { bytes_left };
+
+    fn next(&mut self) -> Option<Result<Found, Fault>> {
+        let found = stands_at(self.book, self.at)?;
+        self.at = match found {
+            Ok(record) => record.next,
+            Err(_) => self.book.len(),
+        };
+        Some(found)
     }
 }

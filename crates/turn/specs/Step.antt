@@ -1,18 +1,26 @@
 -- What a turn of the walk answers and leaves, by what was read at its place. A refused record changes nothing.
-use Rattle.std.specs.Prelude.{ℕ, ◌+◌, ◌<◌, Bool, true, false, List, ◌≡◌, length, if◌then◌else◌}
-use Rattle.laws.specs.Tests.{◌up_to◌}
+use Rattle.std.specs.Prelude.{ℕ, ◌+◌, ◌<◌, List, ◌≡◌, Result, Ok, Err}
 use Rattle.paper.specs.declared.Fault.{Fault}
-use Rattle.paper.specs.Refusals.{Checked, accepted, refused}
+use Rattle.paper.specs.Refusals.{Checked, fault, result_of}
 use Rattle.paper.specs.Records.{Record, currencies}
-use Rattle.paper.specs.Book.{placed, admitted, record_at, next_at}
+use Rattle.paper.specs.Book.{admitted, record_at}
 use Rattle.arrays.specs.declared.masks.Masks.{Masks}
 use Rattle.arrays.specs.Masks.{marked}
 use Rattle.arrays.specs.Arrays.{Arrays, with_record}
 use Rattle.posting.specs.Answers.{into}
 use Rattle.lending.specs.Records.{tested}
-use Rattle.turn.specs.declared.Walked.{Walked}
-use Rattle.turn.specs.declared.Walked.TheVariants.{All, Refused}
-use Rattle.turn.specs.declared.Step.{Step}
+use Rattle.fields.specs.declared.Field.{Field}
+use Rattle.fields.specs.declared.Field.TheVariants as natural
+use Rattle.posting.specs.declared.Taken.{Taken}
+use Rattle.posting.specs.declared.Taken.TheVariants as taken
+
+abbrev pub field_read : Field → Result ℕ Fault
+field_read (natural.Value x) = Ok x
+field_read (natural.Bad f) = Err f
+
+abbrev pub taken_in : Taken → Result (Unit {0}) Fault
+taken_in taken.Done = Ok tt
+taken_in (taken.Refused f) = Err f
 
 -- a place that 64 bits hold, as every place of a book is
 abbrev pub Addressed : ℕ → Type 0
@@ -20,38 +28,20 @@ Addressed place = place < 18_446_744_073_709_551_616
 
 -- where a fault is told: the paper's `placed`
 abbrev pub fault_at : ℕ → Fault → Fault
-fault_at at f = record { cause = f.cause; place = at + f.place }
+fault_at at f = fault f.cause (at + f.place)
 
-abbrev pub masks_as : (used curved : ℕ) → Masks
-masks_as used curved = record { used = used; curved = curved }
+-- the walk goes on with these masks, or it is over
+abbrev pub stepped : Checked Record → Masks → Result Masks Fault
+stepped read m = result_of (λ r. marked r m) read
 
--- the walk goes on at the next place with these masks
-abbrev pub on_to : ℕ → Masks → Step
-on_to next m = record { on = true; next = next; used = m.used; curved = m.curved; answer = All m }
-
--- the walk is over, and this is its answer
-abbrev pub stops_with : Walked → Step
-stops_with answer = record { on = false; next = 0; used = 0; curved = 0; answer = answer }
-
-abbrev pub refused_for : Fault → Step
-refused_for f = stops_with (Refused f)
-
-abbrev pub stepped : Checked Record → ℕ → Masks → Step
-stepped (accepted r) next m = on_to next (marked r m)
-stepped (refused q place) next m = refused_for (record { cause = q; place = place })
-
-pub record Stepped (read : Checked Record) (next : ℕ) (m : Masks) (a : Arrays) (answer : Step) (a' : Arrays) : Type 0 where
-  pub answered : answer ≡ stepped read next m
+pub record Stepped (read : Checked Record) (m : Masks) (a : Arrays) (answer : Result Masks Fault) (a' : Arrays) : Type 0 where
+  pub answered : answer ≡ stepped read m
   pub arrays : a' ≡ into with_record read a
 
--- of a body whose record begins at a place
-abbrev pub StepsOver : ℕ → List ℕ → (at next : ℕ) → Masks → Arrays → Step → Arrays → Type 0
-StepsOver kind body at next m a = Stepped (placed at (admitted currencies (tested m.curved a) kind body)) next m a
+-- of a body, with places counted from the first byte of its record
+abbrev pub StepsOver : ℕ → List ℕ → Masks → Arrays → Result Masks Fault → Arrays → Type 0
+StepsOver kind body m a = Stepped (admitted currencies (tested m.curved a) kind body) m a
 
--- the same at a place where the book may be over: there nothing changes
-pub record Turned (over : Bool) (read : Checked Record) (next : ℕ) (m : Masks) (a : Arrays) (answer : Step) (a' : Arrays) : Type 0 where
-  pub answered : answer ≡ (if over then stops_with (All m) else stepped read next m)
-  pub arrays : a' ≡ (if over then a else into with_record read a)
-
-abbrev pub Turns : List ℕ → ℕ → Masks → Arrays → Step → Arrays → Type 0
-Turns book at m a = Turned (length book up_to at) (record_at currencies (tested m.curved a) book at) (next_at book at) m a
+-- of the record at a place
+abbrev pub Turns : List ℕ → ℕ → Masks → Arrays → Result Masks Fault → Arrays → Type 0
+Turns book at m a = Stepped (record_at currencies (tested m.curved a) book at) m a

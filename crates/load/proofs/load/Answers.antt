@@ -1,14 +1,15 @@
 -- `load`: refused in the walk, a currency without its curve, or all kept.
+use Rattle.std.proofs.lemmas.Result.{err_from_is_err_and}
 use Rattle.load.proofs.LoadLaws.{load-refused, load-missing, load-all}
 use Rattle.load.proofs.load.Goals as goal
 
-pub returns-then-missing : goal.returns-then-missing
-returns-then-missing c =
-    load-missing _ c.walk.ensures _ c.in-All.is c.lowest_missing-missing.ensures c.if-missing.true
+pub returns-in_err-masks : goal.returns-in_err-masks
+returns-in_err-masks c =
+    let told = err_from_is_err_and c.from_residual.result c.from_residual.ensures.1 in
+    rw (told.1, told.2) (load-refused _ c.walk.ensures _ c.in_err-masks.was)
 
-pub returns-in-Refused : goal.returns-in-Refused
-returns-in-Refused c = load-refused _ c.walk.ensures _ c.in-Refused.is
+pub returns-in-Some : goal.returns-in-Some
+returns-in-Some c = load-missing _ c.walk.ensures _ c.in_ok-masks.was c.in-Some.ensures
 
-pub returns-else-missing : goal.returns-else-missing
-returns-else-missing c =
-    load-all _ c.walk.ensures _ c.in-All.is c.lowest_missing-missing.ensures c.if-missing.false
+pub returns-in-None : goal.returns-in-None
+returns-in-None c = load-all _ c.walk.ensures _ c.in_ok-masks.was c.in-None.ensures

@@ -1,0 +1,78 @@
+-- `take_body`: the currency is bad, the record refused, or taken.
+use Prim.Native.Nat.{ℕ}
+use mathlib.Core.Bool.{Bool}
+use mathlib.Core.Path.{◌≡◌, refl, sym, ap, ◌∙◌}
+use native.Mathlib.Omega.{arith}
+use Rattle.std.proofs.lemmas.Result.{err_from_is_err_and}
+use Rattle.paper.specs.Refusals.{Checked, accepted, refused, result_of}
+use Rattle.paper.specs.Records.{Record, currencies}
+use Rattle.paper.specs.Fields.{currency_at}
+use Rattle.paper.specs.Sound.{Between}
+use Rattle.paper.proofs.Checks.{known_of}
+use Rattle.paper.proofs.Ranges.{currency-known}
+use Rattle.arrays.specs.Masks.{marked_by}
+use Rattle.arrays.specs.Arrays.{Arrays, arrays_as}
+use Rattle.fields.specs.Answers.{field_of}
+use Rattle.posting.specs.Answers.{taken_of}
+use Rattle.lending.specs.Records.{tested}
+use Rattle.turn.specs.Step.{field_read, taken_in}
+use Rattle.turn.proofs.TurnLaws.{accepted-as, refused-as, all_said, known-long, curves-hold, stepped-bad, stepped-refused, stepped-done}
+use Rattle.turn.proofs.take_body.Goals as goal
+use Rattle.turn.proofs.take_body.Goals.{Start, In_ok-currency}
+
+-- the arrays as they were found
+abbrev found : Start → Arrays
+found s = arrays_as s.args.ledger.now s.args.rates.now s.args.addons.now s.args.sizes.now s.args.options.now
+
+read-as : (m : Checked ℕ) → field_read (field_of m) ≡ result_of (λ (n : ℕ). n) m
+read-as (accepted x) = refl
+read-as (refused q place) = refl
+
+done-as : (m : Checked Record) → taken_in (taken_of m) ≡ all_said m
+done-as (accepted r) = refl
+done-as (refused q place) = refl
+
+-- the currency, once it is read
+first : (c : In_ok-currency) → currency_at currencies c.args.body.now 0 ≡ accepted c.in_ok-currency.currency
+first c = accepted-as (sym c.in_ok-currency.was ∙ c.read.ensures ∙ ap field_read c.currency_at.ensures ∙ read-as _)
+
+range : (c : In_ok-currency) → Between 1 currencies c.in_ok-currency.currency
+range c = known_of (currency-known {bytes = 1} c.args.body.now 0 (omega arith) currencies) c.in_ok-currency.currency (first c)
+
+pub currency_at-requires : goal.currency_at-requires
+currency_at-requires c = omega (arith, c.requires.0, known-long c.args.kind c.requires.1)
+
+pub returns-in_err-currency : goal.returns-in_err-currency
+returns-in_err-currency c =
+    let told = err_from_is_err_and c.from_residual.result c.from_residual.ensures.1 in
+    let bad = refused-as (λ (n : ℕ). n) (sym c.in_err-currency.was ∙ c.read.ensures ∙ ap field_read c.currency_at.ensures ∙ read-as _) in
+    rw (told.1, told.2) (stepped-bad _ c.args.kind _ c.args.masks _ c.requires.1 _ bad)
+
+pub take_parts-requires-clause-body : goal.take_parts-requires-clause-body
+take_parts-requires-clause-body c =
+    let w = (goal.at.take_parts-requires-clause-body c).In_ok-currency in
+    (record { long = c.requires.0; first = first w }, (range w).from, (range w).to)
+
+pub with_curve-requires : goal.with_curve-requires
+with_curve-requires c = let r = range (goal.at.with_curve-requires c).In_ok-currency in (r.from, r.to)
+
+pub returns-then-curve_kind : goal.returns-then-curve_kind
+returns-then-curve_kind c =
+    let a = found (goal.at.returns-then-curve_kind c).Start in
+    let l = c.take_parts.new in
+    let same = sym c.if-curve_kind.true ∙ c.curve_kind.ensures in
+    stepped-done (tested c.args.masks.curved a) c.args.kind c.args.body.now c.args.masks a c.in_ok-currency.currency (first (goal.at.returns-then-curve_kind c).In_ok-currency)
+    {a' = arrays_as l.ledger l.rates l.addons l.sizes l.options} (sym c.in_ok-done.was ∙ c.done.ensures ∙ ap taken_in c.take_parts.ensures.answered ∙ done-as _) c.take_parts.ensures.arrays
+    (c.with_curve.ensures ∙ ap (λ (x : Bool). marked_by x c.in_ok-currency.currency c.args.masks) same)
+
+pub with_used-requires : goal.with_used-requires
+with_used-requires c = let r = range (goal.at.with_used-requires c).In_ok-currency in (r.from, r.to)
+
+pub returns : goal.returns
+returns c =
+    let a = found (goal.at.returns c).Start in
+    let l = c.take_parts.new in
+    let same = sym c.if-curve_kind.false ∙ c.curve_kind.ensures in
+    stepped-done (tested c.args.masks.curved a) c.args.kind c.args.body.now c.args.masks a c.in_ok-currency.currency (first (goal.at.returns c).In_ok-currency)
+    {a' = arrays_as l.ledger l.rates l.addons l.sizes l.options} (sym c.in_ok-done.was ∙ c.done.ensures ∙ ap taken_in c.take_parts.ensures.answered ∙ done-as _) c.take_parts.ensures.arrays
+    (c.with_used.ensures ∙ ap (λ (x : Bool). marked_by x c.in_ok-currency.currency c.args.masks) same)
