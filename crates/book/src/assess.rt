@@ -6,7 +6,6 @@ ghost use Rattle.paper.specs.TurnedDown.{bad_capital, room_too_small};
 ghost use Rattle.load.specs.Load.{of_records};
 ghost use Rattle.book.specs.Assessed.{Answers, Assesses, Truthful, turned_away};
 
-use factor::table;
 use load::{Loaded, load};
 use paper::{CELLS, CHANGES, CURRENCIES, FIGURES, Fault, LONGEST_BOOK, Refusal, SCENARIOS};
 use scales::Thousands;
@@ -43,8 +42,7 @@ fn assess_records(book: &[u8], tier1: Thousands, report: &mut [i64], ledger: &mu
             Assessed::Refused(fault)
         }
         Loaded::Kept(curved) => {
-            let factors = table();
-            fill_report(ledger, &rates, &addons, curved, tier1, &factors, report);
+            fill_report(ledger, &rates, &addons, curved, tier1, report);
             Assessed::Reported(curved)
         }
     }

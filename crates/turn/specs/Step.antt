@@ -1,5 +1,5 @@
 -- What a turn of the walk answers and leaves, by what was read at its place. A refused record changes nothing.
-use Rattle.std.specs.Prelude.{ℕ, ◌+◌, ◌<◌, List, ◌≡◌, Result, Ok, Err}
+use Rattle.std.specs.Prelude.{ℕ, ◌+◌, ◌<◌, List, ◌≡◌, Result}
 use Rattle.paper.specs.declared.Fault.{Fault}
 use Rattle.paper.specs.Refusals.{Checked, fault, result_of}
 use Rattle.paper.specs.Records.{Record, currencies}
@@ -9,18 +9,6 @@ use Rattle.arrays.specs.Masks.{marked}
 use Rattle.arrays.specs.Arrays.{Arrays, with_record}
 use Rattle.posting.specs.Answers.{into}
 use Rattle.lending.specs.Records.{tested}
-use Rattle.fields.specs.declared.Field.{Field}
-use Rattle.fields.specs.declared.Field.TheVariants as natural
-use Rattle.posting.specs.declared.Taken.{Taken}
-use Rattle.posting.specs.declared.Taken.TheVariants as taken
-
-abbrev pub field_read : Field → Result ℕ Fault
-field_read (natural.Value x) = Ok x
-field_read (natural.Bad f) = Err f
-
-abbrev pub taken_in : Taken → Result (Unit {0}) Fault
-taken_in taken.Done = Ok tt
-taken_in (taken.Refused f) = Err f
 
 -- a place that 64 bits hold, as every place of a book is
 abbrev pub Addressed : ℕ → Type 0

@@ -8,33 +8,14 @@ ghost use Rattle.paper.specs.TurnedDown.{unknown_kind};
 ghost use Rattle.arrays.specs.Arrays.{Holding};
 ghost use Rattle.arrays.specs.Lent.{lent, before, after};
 ghost use Rattle.reader.specs.Reader.{stands_at};
-ghost use Rattle.turn.specs.Step.{Addressed, StepsOver, Turns, fault_at, field_read, taken_in};
+ghost use Rattle.turn.specs.Step.{Addressed, StepsOver, Turns, fault_at};
 
 use arrays::masks::Masks;
-use fields::{Field, currency_at};
+use fields::currency_at;
 use kinds::curve_kind;
 use lending::take_parts;
 use paper::Fault;
-use posting::Taken;
 use reader::Found;
-
-fn read(field: Field) -> Result<u32, Fault>
-    ensures { result ≡ field_read field }
-{
-    match field {
-        Field::Value(x) => Ok(x),
-        Field::Bad(fault) => Err(fault),
-    }
-}
-
-fn done(taken: Taken) -> Result<(), Fault>
-    ensures { result ≡ taken_in taken }
-{
-    match taken {
-        Taken::Done => Ok(()),
-        Taken::Refused(fault) => Err(fault),
-    }
-}
 
 // A fault of a record is told where the record begins and so many bytes on (02, request 2).
 fn placed(fault: Fault, at: usize) -> Fault
@@ -59,8 +40,8 @@ fn take_body(
     requires { (length body.now ≡ body_length kind) × (unknown_kind kind ≡ false) × Holding masks (lent ledger rates addons sizes options) }
     ensures { StepsOver kind body.now masks (before ledger rates addons sizes options) result (after ledger rates addons sizes options) }
 {
-    let currency = read(currency_at(body, 0))?;
-    done(take_parts(
+    let currency = currency_at(body, 0)?;
+    take_parts(
         kind,
         currency,
         masks.curved,
@@ -70,7 +51,7 @@ fn take_body(
         addons,
         sizes,
         options,
-    ))?;
+    )?;
     if curve_kind(kind) {
         return Ok(masks.with_curve(currency));
     }

@@ -3,7 +3,6 @@ use Prim.Native.Nat.{ℕ}
 use mathlib.Core.Bool.{Bool}
 use mathlib.Core.Path.{◌≡◌, refl, sym, ap, ◌∙◌}
 use native.Mathlib.Omega.{arith}
-use Rattle.std.proofs.lemmas.Result.{err_from_is_err_and}
 use Rattle.paper.specs.Refusals.{Checked, accepted, refused, result_of}
 use Rattle.paper.specs.Records.{Record, currencies}
 use Rattle.paper.specs.Fields.{currency_at}
@@ -12,10 +11,9 @@ use Rattle.paper.proofs.Checks.{known_of}
 use Rattle.paper.proofs.Ranges.{currency-known}
 use Rattle.arrays.specs.Masks.{marked_by}
 use Rattle.arrays.specs.Arrays.{Arrays, arrays_as}
-use Rattle.fields.specs.Answers.{field_of}
-use Rattle.posting.specs.Answers.{taken_of}
+use Rattle.fields.specs.Answers.{as_it_is}
+use Rattle.fields.proofs.Reading.{handed, value, bad}
 use Rattle.lending.specs.Records.{tested}
-use Rattle.turn.specs.Step.{field_read, taken_in}
 use Rattle.turn.proofs.TurnLaws.{accepted-as, refused-as, all_said, known-long, curves-hold, stepped-bad, stepped-refused, stepped-done}
 use Rattle.turn.proofs.take_body.Goals as goal
 use Rattle.turn.proofs.take_body.Goals.{Start, In_ok-currency}
@@ -24,17 +22,9 @@ use Rattle.turn.proofs.take_body.Goals.{Start, In_ok-currency}
 abbrev found : Start → Arrays
 found s = arrays_as s.args.ledger.now s.args.rates.now s.args.addons.now s.args.sizes.now s.args.options.now
 
-read-as : (m : Checked ℕ) → field_read (field_of m) ≡ result_of (λ (n : ℕ). n) m
-read-as (accepted x) = refl
-read-as (refused q place) = refl
-
-done-as : (m : Checked Record) → taken_in (taken_of m) ≡ all_said m
-done-as (accepted r) = refl
-done-as (refused q place) = refl
-
 -- the currency, once it is read
 first : (c : In_ok-currency) → currency_at currencies c.args.body.now 0 ≡ accepted c.in_ok-currency.currency
-first c = accepted-as (sym c.in_ok-currency.was ∙ c.read.ensures ∙ ap field_read c.currency_at.ensures ∙ read-as _)
+first c = value c.in_ok-currency.ensures
 
 range : (c : In_ok-currency) → Between 1 currencies c.in_ok-currency.currency
 range c = known_of (currency-known {bytes = 1} c.args.body.now 0 (omega arith) currencies) c.in_ok-currency.currency (first c)
@@ -43,10 +33,7 @@ pub currency_at-requires : goal.currency_at-requires
 currency_at-requires c = omega (arith, c.requires.0, known-long c.args.kind c.requires.1)
 
 pub returns-in_err-currency : goal.returns-in_err-currency
-returns-in_err-currency c =
-    let told = err_from_is_err_and c.from_residual.result c.from_residual.ensures.1 in
-    let bad = refused-as (λ (n : ℕ). n) (sym c.in_err-currency.was ∙ c.read.ensures ∙ ap field_read c.currency_at.ensures ∙ read-as _) in
-    rw (told.1, told.2) (stepped-bad _ c.args.kind _ c.args.masks _ c.requires.1 _ bad)
+returns-in_err-currency c = rw (handed _ c.from_residual.ensures.1) (stepped-bad _ c.args.kind _ c.args.masks _ c.requires.1 _ (bad as_it_is c.in_err-currency.ensures))
 
 pub take_parts-requires-clause-body : goal.take_parts-requires-clause-body
 take_parts-requires-clause-body c =
@@ -62,7 +49,7 @@ returns-then-curve_kind c =
     let l = c.take_parts.new in
     let same = sym c.if-curve_kind.true ∙ c.curve_kind.ensures in
     stepped-done (tested c.args.masks.curved a) c.args.kind c.args.body.now c.args.masks a c.in_ok-currency.currency (first (goal.at.returns-then-curve_kind c).In_ok-currency)
-    {a' = arrays_as l.ledger l.rates l.addons l.sizes l.options} (sym c.in_ok-done.was ∙ c.done.ensures ∙ ap taken_in c.take_parts.ensures.answered ∙ done-as _) c.take_parts.ensures.arrays
+    {a' = arrays_as l.ledger l.rates l.addons l.sizes l.options} (c.in_ok-take_parts.ensures.answered) c.in_ok-take_parts.ensures.arrays
     (c.with_curve.ensures ∙ ap (λ (x : Bool). marked_by x c.in_ok-currency.currency c.args.masks) same)
 
 pub with_used-requires : goal.with_used-requires
@@ -74,5 +61,5 @@ returns c =
     let l = c.take_parts.new in
     let same = sym c.if-curve_kind.false ∙ c.curve_kind.ensures in
     stepped-done (tested c.args.masks.curved a) c.args.kind c.args.body.now c.args.masks a c.in_ok-currency.currency (first (goal.at.returns c).In_ok-currency)
-    {a' = arrays_as l.ledger l.rates l.addons l.sizes l.options} (sym c.in_ok-done.was ∙ c.done.ensures ∙ ap taken_in c.take_parts.ensures.answered ∙ done-as _) c.take_parts.ensures.arrays
+    {a' = arrays_as l.ledger l.rates l.addons l.sizes l.options} (c.in_ok-take_parts.ensures.answered) c.in_ok-take_parts.ensures.arrays
     (c.with_used.ensures ∙ ap (λ (x : Bool). marked_by x c.in_ok-currency.currency c.args.masks) same)

@@ -13,7 +13,7 @@ fill_report-requires c =
     let all = loads.all _ c.in-Kept.is in
     let sized = all-sized _ _ _ loads.arrays all in
     let bounds = bounds-hold _ _ _ loads.arrays all in
-    record { report_lengths = (sized.ledger-long, sized.rates-long, sized.add_ons-long, c.requires.report_len.0); tier1_bound = (c.requires.tier1_bound, c.table-factors.ensures); bounds = bounds }
+    record { report_lengths = (sized.ledger-long, sized.rates-long, sized.add_ons-long, c.requires.report_len.0); tier1_bound = c.requires.tier1_bound; bounds = bounds }
 
 pub returns-in-Refused : goal.returns-in-Refused
 returns-in-Refused c =
