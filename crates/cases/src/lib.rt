@@ -19,7 +19,7 @@ pub struct Case<'a> {
     pub rest: &'a [u8],
 }
 
-// The label stands after the mark and a blank; the bytes are those up to the next mark. Nothing where the case is badly written.
+// The label stands after the mark and a blank; the bytes are those up to the next mark. None where the case is badly written.
 pub fn read_case<'a>(text: &'a [u8], bytes: &mut [u8]) -> Option<Case<'a>>
     ensures label { IfSome result (λ found. StartsWith (drop 2 text.now) found.label.now) }
     ensures count { IfSome result (λ found. found.count ≤ length bytes.old) }

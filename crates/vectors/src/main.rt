@@ -13,7 +13,7 @@ use show::{say, show};
 
 const LONGEST: usize = 65535;
 
-// Only comments stand before the first case. Nothing comes of a case that is badly written, nor of those after it.
+// Only comments stand before the first case. A case that is badly written ends the run, and so does a text that was not read whole.
 fn run_cases(rt: &impl Print, text: &[u8]) -> Option<()> {
     let mut bytes = [0u8; 65537];
     let mut rest = skip(text);
@@ -39,5 +39,10 @@ fn main(rt: HostRuntime) {
         say(&rt, b"bad text\n");
     }
     show_room(&rt, b"report room 201\n", &mut [0; 201], &mut [0; CELLS]);
-    show_room(&rt, b"ledger room 4,255\n", &mut [0; FIGURES], &mut [0; 4255]);
+    show_room(
+        &rt,
+        b"ledger room 4,255\n",
+        &mut [0; FIGURES],
+        &mut [0; 4255],
+    );
 }
