@@ -1,10 +1,8 @@
 // Kind 5, an asset: in each bucket what is paid, prepaid and due as interest; the balance is carried from bucket to bucket.
-ghost use Rattle.std.specs.Prelude.{◌+◌, ◌*◌, ◌-◌, ◌<◌, ◌≤◌, false, ◌&&◌, ◌≡◌, length};
-ghost use Rattle.laws.specs.Tests.{◌is◌, ◌below◌};
-ghost use Rattle.paper.specs.Scales.{billion};
+ghost use Rattle.std.specs.Prelude.{◌+◌, ◌*◌, ◌<◌, ◌≤◌, ◌≡◌, length};
 ghost use Rattle.paper.specs.Ladder as Ladder;
 ghost use Rattle.paper.specs.Ladder.{buckets};
-ghost use Rattle.paper.specs.Behaviour.{whole_rate, paid, prepaid, interest, scheduled_at};
+ghost use Rattle.paper.specs.Behaviour.{whole_rate, scheduled_at};
 ghost use Rattle.fields.specs.Answers.{amounts_from};
 ghost use Rattle.posting.specs.Parts.{AtMost};
 ghost use Rattle.behaviour.specs.Rows.{SoundSchedule, loan_rows, loan_sums};
