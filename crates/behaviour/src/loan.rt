@@ -57,8 +57,8 @@ pub fn loan_rows(body: &[u8], share: u32, rows: &mut [u64], sums: &mut [u64])
         balance: remaining,
         sum: Thousands(0),
     });
-    for k in 0..BUCKETS {
-        let width = u64::from(widths[k]);
+    for (k, width) in widths.iter().enumerate() {
+        let width = u64::from(*width);
         loan_column(body, width, remaining, k, &mut courses, rows);
         remaining.0 -= amount_of(body, 3, k).0;
     }

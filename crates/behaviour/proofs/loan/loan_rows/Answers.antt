@@ -66,14 +66,15 @@ started c =
 pub loop-k-init : goal.loop-k-init
 unfolding sum outstanding_at scheduled_at
 loop-k-init c =
+    let made = started (goal.at.loop-k-init c).After-map-courses in
     let all = c.sum_from-remaining.result in
     let three : length c.rates_of.result ≡ 3 = row-long (behavioural_rate three_multipliers c.args.share) 3 c.rates_of.ensures in
     record {
-      at_rates = ap rates (started c) ∙ rates-start all c.rates_of.result ∙ c.rates_of.ensures;
+      at_rates = ap rates (made) ∙ rates-start all c.rates_of.result ∙ c.rates_of.ensures;
       reached = record {
         flows = columns-none c.requires.body_len.2;
-        added = rw (started c, sums-start all c.rates_of.result, three) (kept-none 0 (λ r. refl));
-        left = rw (started c, balances-start all c.rates_of.result, three) (kept-none all.0 (λ r. sym c.sum_from-remaining.ensures.0));
+        added = rw (made, sums-start all c.rates_of.result, three) (kept-none 0 (λ r. refl));
+        left = rw (made, balances-start all c.rates_of.result, three) (kept-none all.0 (λ r. sym c.sum_from-remaining.ensures.0));
       };
       left = c.sum_from-remaining.ensures.0;
     }
