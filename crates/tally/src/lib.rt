@@ -49,11 +49,7 @@ fn currency_after(book: &[u8], at: usize) -> u8
     requires { (at < length book.now) × (length book.now ≤ longest_book) }
     ensures { result ≡ byte book.now (suc at) }
 {
-    let after = at + 1;
-    if after < book.len() {
-        return book[after];
-    }
-    0
+    book.get(at + 1).copied().unwrap_or(0)
 }
 
 // Answers the number of all.
@@ -63,11 +59,11 @@ pub fn tally(book: &[u8], counts: &mut [i64]) -> u64
     ensures value { result ≡ length (places book.now) }
     ensures counts_after { counts.new ≡ counts_of book.now (places book.now) }
 {
-    let mut count: u64 = 0;
+    let mut count = 0;
     let mut at = 0;
-    while at < book.len() {
-        count_record(book[at], currency_after(book, at), counts);
-        at = at + 1 + body_length(book[at]);
+    while let Some(kind) = book.get(at) {
+        count_record(*kind, currency_after(book, at), counts);
+        at += 1 + body_length(*kind);
         count += 1;
     }
     count
