@@ -42,7 +42,7 @@ fn tolerance_of(size: Thousands) -> Thousands
     if size.0 == 0 {
         Thousands(0)
     } else {
-        Thousands(1 + (26 * size.0 + 999_999_999) / 1_000_000_000)
+        Thousands(1 + (26 * size.0).div_ceil(1_000_000_000))
     }
 }
 
