@@ -11,4 +11,4 @@ returns-then-size-eq0 c = rw (eq-eqb _ _ c.if-size-eq0.true)
 
 pub returns-else-size-eq0 : goal.returns-else-size-eq0
 unfolding tolerance_of rounded_up
-returns-else-size-eq0 c = rw (ne_eqb _ _ c.if-size-eq0.false) (omega (arith, c.div_ceil.ensures))
+returns-else-size-eq0 c = rw (ne_eqb _ _ c.if-size-eq0.false) (omega arith)
