@@ -1,2 +1,2 @@
--- a code found in a list or not, and what a line says
+-- what a line says
 pub mod Lines

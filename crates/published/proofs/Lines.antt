@@ -1,53 +1,31 @@
--- What a `match` on a code tells of a list, and what a line that was looked up tells of a body.
-use Prim.Native.Nat.{ℕ, zero, suc, ◌+◌, ◌/◌, ◌%◌, ◌≤◌, ◌<◌}
+-- What a line that was looked up tells of a body.
+use Prim.Native.Nat.{ℕ, ◌+◌, ◌/◌, ◌%◌, ◌≤◌, ◌<◌}
 use mathlib.Core.Bool.{Bool, true, false}
-use mathlib.Core.List.{List, [], ◌∷◌}
+use mathlib.Core.List.{List}
 use mathlib.Core.Logic.{⊎_elim}
 use mathlib.Core.Path.{◌≡◌, refl, sym, ap, ◌∙◌}
 use native.Mathlib.Omega.{arith}
-use borrow.Author.Tests.{not-true, not-false, ne_eqb, leb-true, ltb-false}
+use borrow.Author.Tests.{not-true, not-false, leb-true, ltb-false}
 use lib.ListN.{length, get_or-eq_default}
-use Rattle.laws.specs.Tests.{◌is◌, ◌up_to◌}
-use Rattle.laws.proofs.Tests.{lt-or-ge, and-true, none_first}
+use Rattle.laws.specs.Tests.{◌up_to◌}
+use Rattle.laws.proofs.Tests.{lt-or-ge, and-true}
 use Rattle.paper.specs.declared.Refusal.TheVariants.{UnknownEdition, CodeNotListed}
 use Rattle.std.specs.Option.{ok_or}
 use Rattle.fields.specs.Answers.{as_it_is}
 use Rattle.paper.specs.Refusals.{accepted, refused, ◌>>◌, unless, fault, result_of}
 use Rattle.paper.specs.declared.Shocks.{Shocks}
-use Rattle.paper.specs.Published.{Entry, unlisted, code_at, line_of, list_of, shocks_for, Sizes}
+use Rattle.paper.specs.Published.{Entry, unlisted, line_of, list_of, shocks_for, Sizes}
 use Rattle.paper.specs.TurnedDown.{unknown_edition, code_not_listed}
 use Rattle.paper.specs.Fields.{byte, three, listed_at}
 use Rattle.paper.proofs.Published.{listed-sized}
 use Rattle.std.specs.Prelude.{Option, Some, None}
 use Rattle.published.specs.Lines.{in_digits, Says}
 
--- ---- a code that a list has: an arm's line is that of its key
-pub line : (list : List Entry) {code key : ℕ} → code ≡ key → in_digits (shocks_for list key) ≡ in_digits (shocks_for list code)
-line list e = ap (λ (k : ℕ). in_digits (shocks_for list k)) (sym e)
-
 -- ---- a code that a list has not
-
--- as a `match` tells it: none of the entries, one after the other
-abbrev pub NotIn : Type 0 → List Entry → ℕ → Type 0
-NotIn P [] code = P
-NotIn P (e ∷ es) code = NotIn (P × (code ≡ e.code → ⊥)) es code
-
-none_of : (list : List Entry) (code : ℕ) {P : Type 0} → NotIn P list code → P × ((j : ℕ) → j < length list → code_at list j ≡ code → ⊥)
-none_of [] code h = (h, λ j l. absurd (omega arith))
-none_of (e ∷ es) code {P} h = let rest = none_of es code h in (rest.0.0, differs rest)
-  where
-    differs : (P × (code ≡ e.code → ⊥)) × ((j : ℕ) → j < length es → code_at es j ≡ code → ⊥) → (j : ℕ) → j < suc (length es) → code_at (e ∷ es) j ≡ code → ⊥
-    differs rest zero l same = rest.0.1 (sym same)
-    differs rest (suc j) l same = rest.1 j (omega arith) same
 
 past_end : (list : List Entry) (code : ℕ) → length list ≤ line_of list code → in_digits (shocks_for list code) ≡ 0
 unfolding shocks_for in_digits
 past_end list code l = ap (λ (e : Entry). in_digits e.shocks) (get_or-eq_default list unlisted {n = line_of list code} l)
-
-pub not_listed : (list : List Entry) (code : ℕ) → NotIn Unit list code → in_digits (shocks_for list code) ≡ 0
-unfolding line_of
-not_listed list code h =
-    past_end list code (omega (arith, none_first (λ j. code_at list j is code) 0 (length list) (λ j m l. ne_eqb (code_at list j) code ((none_of list code h).1 j (omega arith)))))
 
 -- ---- a line that was looked up
 

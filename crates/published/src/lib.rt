@@ -1,7 +1,7 @@
 // The published shock sizes (02, request 5): what an edition lists for a currency code. A line of a list is one number, of three digits each for the
 // parallel, the short and the long shock in basis points; 0 is no line. A correction is one line here and the same one in specs/Published of the paper, whose
 // lists these are proved to be. Nothing is built for a record: the compiler makes a search of each `match`.
-#![tactic(auto)]
+#![tactic(auto, unfolding(paper::specs::Published::edition1, paper::specs::Published::edition2, paper::specs::Published::shocks_for, paper::specs::Published::line_of, laws::specs::Tests::first, crate::specs::Lines::in_digits))]
 
 ghost use Rattle.std.specs.Prelude.{◌≡◌, ◌+◌, ◌≤◌, length};
 ghost use Rattle.paper.specs.Refusals.{result_of};
