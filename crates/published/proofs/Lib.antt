@@ -1,2 +1,2 @@
--- what a line says
+-- what a list tells of a body
 pub mod Lines

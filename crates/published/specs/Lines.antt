@@ -1,13 +1,9 @@
--- A line of a list as the code holds it.
-use Rattle.std.specs.Prelude.{ℕ, ◌+◌, ◌*◌, ◌≡◌, Option, Some, None}
+-- What a list has for a code.
+use Rattle.std.specs.Prelude.{ℕ, List, length, Option, Some, None, if◌then◌else◌}
+use Rattle.laws.specs.Tests.{◌below◌}
 use Rattle.paper.specs.declared.Shocks.{Shocks}
-use Rattle.paper.specs.Published.{Sizes}
+use Rattle.paper.specs.Published.{Entry, line_of, shocks_for}
 
--- three digits each; what is not listed has 0
-unfoldable pub in_digits : Shocks → ℕ
-in_digits s = s.parallel * 1000000 + s.short * 1000 + s.long
-
--- what a line that was looked up lists
-pub record Says (line : ℕ) (answer : Option Shocks) : Type 0 where
-  pub nothing : line ≡ 0 → answer ≡ None
-  pub something : (s : Shocks) → Sizes s → line ≡ in_digits s → answer ≡ Some s
+-- the shocks of its line, or none
+unfoldable pub listed_in : List Entry → ℕ → Option Shocks
+listed_in list code = if line_of list code below length list then Some (shocks_for list code) else None

@@ -1,14 +1,14 @@
-// The published shock sizes (02, request 5): what an edition lists for a currency code. A line of a list is one number, of three digits each for the
-// parallel, the short and the long shock in basis points; 0 is no line. A correction is one line here and the same one in specs/Published of the paper, whose
-// lists these are proved to be. Nothing is built for a record: the compiler makes a search of each `match`.
-#![tactic(auto, unfolding(paper::specs::Published::edition1, paper::specs::Published::edition2, paper::specs::Published::shocks_for, paper::specs::Published::line_of, laws::specs::Tests::first, crate::specs::Lines::in_digits))]
+// The published shock sizes (02, request 5): what an edition lists for a currency code. A line of a list is the parallel, the short and the long shock in
+// basis points. A correction is one line here and the same one in specs/Published of the paper, whose lists these are proved to be. Nothing is built for a
+// record: the compiler makes a search of each `match`.
+#![tactic(auto, unfolding(paper::specs::Published::edition1, paper::specs::Published::edition2, paper::specs::Published::shocks_for, paper::specs::Published::line_of, laws::specs::Tests::first, crate::specs::Lines::listed_in))]
 
 ghost use Rattle.std.specs.Prelude.{◌≡◌, ◌+◌, ◌≤◌, length};
 ghost use Rattle.paper.specs.Refusals.{result_of};
-ghost use Rattle.paper.specs.Published.{edition1, edition2, shocks_for};
+ghost use Rattle.paper.specs.Published.{edition1, edition2};
 ghost use Rattle.paper.specs.Fields.{listed_at};
 ghost use Rattle.fields.specs.Answers.{as_it_is};
-ghost use Rattle.published.specs.Lines.{in_digits, Says};
+ghost use Rattle.published.specs.Lines.{listed_in};
 
 use fields::bytes::{byte_at, three_at};
 use fields::record_fault;
@@ -57,77 +57,74 @@ const USD: u32 = 0x555344;
 
 const ZAR: u32 = 0x5a4152;
 
+fn line(parallel: u32, short: u32, long: u32) -> Option<Shocks>
+    ensures { result ≡ Some (record { parallel = parallel; short = short; long = long }) }
+{
+    Some(Shocks {
+        parallel,
+        short,
+        long,
+    })
+}
+
 // The 2016 standard: SRP31.90, table 2.
-fn edition_1(code: u32) -> u32
-    ensures { result ≡ in_digits (shocks_for edition1 code) }
+fn edition_1(code: u32) -> Option<Shocks>
+    ensures { result ≡ listed_in edition1 code }
 {
     match code {
-        ARS => 400_500_300,
-        AUD => 300_450_200,
-        BRL => 400_500_300,
-        CAD => 200_300_150,
-        CHF => 100_150_100,
-        CNY => 250_300_150,
-        EUR => 200_250_100,
-        GBP => 250_300_150,
-        HKD => 200_250_100,
-        IDR => 400_500_300,
-        INR => 400_500_300,
-        JPY => 100_100_100,
-        KRW => 300_400_200,
-        MXN => 400_500_300,
-        RUB => 400_500_300,
-        SAR => 200_300_150,
-        SEK => 200_300_150,
-        SGD => 150_200_100,
-        TRY => 400_500_300,
-        USD => 200_300_150,
-        ZAR => 400_500_300,
-        _ => 0,
+        ARS => line(400, 500, 300),
+        AUD => line(300, 450, 200),
+        BRL => line(400, 500, 300),
+        CAD => line(200, 300, 150),
+        CHF => line(100, 150, 100),
+        CNY => line(250, 300, 150),
+        EUR => line(200, 250, 100),
+        GBP => line(250, 300, 150),
+        HKD => line(200, 250, 100),
+        IDR => line(400, 500, 300),
+        INR => line(400, 500, 300),
+        JPY => line(100, 100, 100),
+        KRW => line(300, 400, 200),
+        MXN => line(400, 500, 300),
+        RUB => line(400, 500, 300),
+        SAR => line(200, 300, 150),
+        SEK => line(200, 300, 150),
+        SGD => line(150, 200, 100),
+        TRY => line(400, 500, 300),
+        USD => line(200, 300, 150),
+        ZAR => line(400, 500, 300),
+        _ => None,
     }
 }
 
 // The recalibration of July 2024 (d578), entered from recollection: to be held against the published table before anyone files by it.
-fn edition_2(code: u32) -> u32
-    ensures { result ≡ in_digits (shocks_for edition2 code) }
+fn edition_2(code: u32) -> Option<Shocks>
+    ensures { result ≡ listed_in edition2 code }
 {
     match code {
-        ARS => 400_500_300,
-        AUD => 350_425_300,
-        BRL => 400_500_300,
-        CAD => 225_350_200,
-        CHF => 175_250_200,
-        CNY => 225_300_150,
-        EUR => 225_350_200,
-        GBP => 275_425_250,
-        HKD => 225_375_200,
-        IDR => 400_500_300,
-        INR => 325_475_225,
-        JPY => 100_100_100,
-        KRW => 225_350_225,
-        MXN => 400_500_300,
-        RUB => 400_500_300,
-        SAR => 275_375_250,
-        SEK => 275_425_200,
-        SGD => 175_250_225,
-        TRY => 400_500_300,
-        USD => 200_300_225,
-        ZAR => 325_500_300,
-        _ => 0,
+        ARS => line(400, 500, 300),
+        AUD => line(350, 425, 300),
+        BRL => line(400, 500, 300),
+        CAD => line(225, 350, 200),
+        CHF => line(175, 250, 200),
+        CNY => line(225, 300, 150),
+        EUR => line(225, 350, 200),
+        GBP => line(275, 425, 250),
+        HKD => line(225, 375, 200),
+        IDR => line(400, 500, 300),
+        INR => line(325, 475, 225),
+        JPY => line(100, 100, 100),
+        KRW => line(225, 350, 225),
+        MXN => line(400, 500, 300),
+        RUB => line(400, 500, 300),
+        SAR => line(275, 375, 250),
+        SEK => line(275, 425, 200),
+        SGD => line(175, 250, 225),
+        TRY => line(400, 500, 300),
+        USD => line(200, 300, 225),
+        ZAR => line(325, 500, 300),
+        _ => None,
     }
-}
-
-fn taken_apart(line: u32) -> Option<Shocks>
-    ensures { Says line result }
-{
-    if line == 0 {
-        return None;
-    }
-    Some(Shocks {
-        parallel: line / 1_000_000,
-        short: line / 1_000 % 1_000,
-        long: line % 1_000,
-    })
 }
 
 // An edition (1 byte) and a code (3), and the shocks that are listed. Both refusals are told of the record as a whole.
@@ -136,10 +133,10 @@ pub fn listed_at(body: &[u8], at: usize) -> Result<Shocks, Fault>
     ensures { result ≡ result_of as_it_is (listed_at body.now at) }
 {
     let code = three_at(body, at + 1);
-    let line = match byte_at(body, at) {
+    let listed = match byte_at(body, at) {
         1 => edition_1(code),
         2 => edition_2(code),
         _ => return Err(record_fault(Refusal::UnknownEdition)),
     };
-    taken_apart(line).ok_or(record_fault(Refusal::CodeNotListed))
+    listed.ok_or(record_fault(Refusal::CodeNotListed))
 }

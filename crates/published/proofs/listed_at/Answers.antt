@@ -1,17 +1,15 @@
 -- `listed_at`: the list of the edition that the body names.
-use Prim.Native.Nat.{ℕ}
 use mathlib.Core.Path.{◌≡◌, refl, sym, ap, ◌∙◌}
 use Rattle.std.proofs.Common.{rules}
 use Rattle.std.specs.Prelude.{Err}
 use Rattle.paper.specs.declared.Refusal.TheVariants.{CodeNotListed}
 use Rattle.paper.specs.Refusals.{fault, result_of}
-use Rattle.paper.specs.Published.{edition1, edition2, list_of, shocks_for}
+use Rattle.paper.specs.Published.{edition1, edition2, list_of}
 use Rattle.paper.specs.TurnedDown.{unknown_edition}
 use Rattle.paper.specs.Fields.{listed_at}
 use Rattle.std.specs.Option.{ok_or}
 use Rattle.fields.specs.Answers.{as_it_is}
-use Rattle.published.specs.Lines.{in_digits}
-use Rattle.published.proofs.Lines.{listed-in, no-edition}
+use Rattle.published.proofs.Lines.{looked, no-edition}
 use Rattle.published.proofs.listed_at.Goals as goal
 use Rattle.published.proofs.listed_at.Goals.{in-1, in-2}
 
@@ -25,11 +23,9 @@ returns-in_default c =
 pub returns : goal.returns
 unfolding unknown_edition list_of
 returns c =
-    let looked : result_of as_it_is (listed_at c.args.body.now c.args.at) ≡ ok_or c.taken_apart.result (fault CodeNotListed 0) =
+    let told : result_of as_it_is (listed_at c.args.body.now c.args.at) ≡ ok_or c.match-byte_at.listed (fault CodeNotListed 0) =
     elim c.match-byte_at.branch [
-      | in-1 w ↦ listed-in _ _ 1 edition1 (sym c.byte_at.ensures ∙ w.in-1.is) refl refl
-          (w.line-is ∙ w.edition_1-line.ensures ∙ ap (λ (code : ℕ). in_digits (shocks_for edition1 code)) c.three_at-code.ensures) c.taken_apart.ensures
-      | in-2 w ↦ listed-in _ _ 2 edition2 (sym c.byte_at.ensures ∙ w.in-2.is) refl refl
-          (w.line-is ∙ w.edition_2-line.ensures ∙ ap (λ (code : ℕ). in_digits (shocks_for edition2 code)) c.three_at-code.ensures) c.taken_apart.ensures
+      | in-1 w ↦ rw (w.listed-is, w.edition_1-listed.ensures, c.three_at-code.ensures) (looked _ _ 1 edition1 (sym c.byte_at.ensures ∙ w.in-1.is) refl refl)
+      | in-2 w ↦ rw (w.listed-is, w.edition_2-listed.ensures, c.three_at-code.ensures) (looked _ _ 2 edition2 (sym c.byte_at.ensures ∙ w.in-2.is) refl refl)
     ] in
-    c.ok_or.ensures.value ∙ ap (ok_or c.taken_apart.result) c.record_fault-2.ensures ∙ sym looked
+    c.ok_or.ensures.value ∙ ap (ok_or c.match-byte_at.listed) c.record_fault-2.ensures ∙ sym told
