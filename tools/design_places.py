@@ -41,7 +41,7 @@ def functions(path, text):
 
 fns = []
 for d, _, names in sorted(os.walk(root)):
-    if '/target' in d or not d.endswith('/src'):
+    if '/target' in d or '/out' in d or not d.endswith('/src'):
         continue
     for f in sorted(names):
         if not f.endswith('.rt'):
@@ -127,7 +127,7 @@ for i, (f, a) in enumerate(shapes):
 answers = 0
 for d, _, names in os.walk(root):
     for f in names:
-        if f == 'Answers.antt' and '/target' not in d:
+        if f == 'Answers.antt' and '/target' not in d and '/out' not in d:
             answers += len(re.findall(r'^(?:pub )?\S+ : goal\.', open(os.path.join(d, f), encoding='utf-8').read(), re.M))
 rows[(8, 'answers in Answers.antt')] = [''] * answers
 
