@@ -5,6 +5,7 @@ use mathlib.Core.Path.{◌≡◌, sym, ap, ◌∙◌}
 use native.Mathlib.Omega.{arith}
 use lib.IntN.{ℤ, pos}
 use lib.ListN.{get_or, replicate}
+use Rattle.std.specs.Prelude.{Result, Err}
 use Rattle.paper.specs.declared.Fault.{Fault}
 use Rattle.paper.specs.Refusals.{Checked, accepted, answer_of}
 use Rattle.paper.specs.Records.{Record, currencies}
@@ -13,8 +14,6 @@ use Rattle.paper.specs.Verdict.{change_at, verdict_at, report_of}
 use Rattle.paper.specs.Book.{outcome, report_after}
 use Rattle.worked.proofs.Example as example
 use Rattle.worked.proofs.TwoCurrencies as two
-use Rattle.book.specs.declared.assess.Assessed.{Assessed}
-use Rattle.book.specs.declared.assess.Assessed.TheVariants.{Refused}
 use Rattle.book.specs.Assessed.{told, Assesses}
 
 -- rooms of exactly the report and the ledger, nil before
@@ -25,30 +24,30 @@ abbrev nil_ledger : List ℤ
 nil_ledger = replicate (cells currencies) (pos 0)
 
 -- what is permitted of an accepted book, in these rooms, is its report
-reported : {book : List ℕ} {T : ℕ} {a : Assessed} {report' ledger' : List ℤ} (kept : List Record) → outcome currencies book T (figures currencies) (cells currencies) ≡ accepted kept
+reported : {book : List ℕ} {T : ℕ} {a : Result ℕ Fault} {report' ledger' : List ℤ} (kept : List Record) → outcome currencies book T (figures currencies) (cells currencies) ≡ accepted kept
     → Assesses book T nil_report nil_ledger a report' ledger' → report' ≡ report_of currencies (totals kept) T
 unfolding report_after
 reported {T = T} kept e p =
     p.answers.report-is ∙ ap (λ (o : Checked (List Record)). report_after currencies o T nil_report) e ∙ append-nil (report_of currencies (totals kept) T)
 
 -- one that refuses everything
-pub not-all-refused : {report' ledger' : List ℤ} (f : Fault) → Assesses example.example 4214126 nil_report nil_ledger (Refused f) report' ledger' → ⊥
+pub not-all-refused : {report' ledger' : List ℤ} (f : Fault) → Assesses example.example 4214126 nil_report nil_ledger (Err f) report' ledger' → ⊥
 unfolding told answer_of
 not-all-refused f p =
     let said = p.answers.says ∙ ap answer_of (example.over-reported).accepts in
     let z : ◌≡◌ {A = ℕ} 0 1 = cc in omega arith
 
 -- one that does not touch the report
-pub not-untouched : {a : Assessed} {ledger' : List ℤ} → Assesses example.example 4214126 nil_report nil_ledger a nil_report ledger' → ⊥
+pub not-untouched : {a : Result ℕ Fault} {ledger' : List ℤ} → Assesses example.example 4214126 nil_report nil_ledger a nil_report ledger' → ⊥
 unfolding example.stated
 not-untouched p =
     let same : nil_report ≡ example.stated 1 = reported example.kept (example.over-reported).accepts p ∙ (example.over-reported).report in
     let figure : pos 0 ≡ pos 632121 = ap (λ (l : List ℤ). get_or l 0 (pos 0)) same in
     let z : ◌≡◌ {A = ℕ} 0 632121 = cc in omega arith
 
-module _ {a : Assessed} {report' ledger' : List ℤ} where
+module _ {a : Result ℕ Fault} {report' ledger' : List ℤ} where
   -- one that reports a fixed list: two values of T ask for two verdicts
-  pub not-fixed : {b : Assessed} {ledger'' : List ℤ} → Assesses example.example 4214126 nil_report nil_ledger a report' ledger'
+  pub not-fixed : {b : Result ℕ Fault} {ledger'' : List ℤ} → Assesses example.example 4214126 nil_report nil_ledger a report' ledger'
       → Assesses example.example 4214154 nil_report nil_ledger b report' ledger'' → ⊥
   unfolding example.stated
   not-fixed p q =

@@ -8,7 +8,7 @@ use borrow.Author.Tests.{le-leb, lt-leb, leb-true, leb-false, lt-ltb, le-ltb, lt
 use lib.IntN.{ℤ, pos}
 use lib.ListN.{length, take, drop, replicate, drop_of_length-le, take-append-drop}
 use lib.Seq.{length-take-le}
-use Rattle.std.specs.Prelude.{if◌then◌else◌}
+use Rattle.std.specs.Prelude.{Result, Ok, Err, if◌then◌else◌}
 use Rattle.laws.specs.Tests.{◌below◌, ◌up_to◌, first}
 use Rattle.laws.proofs.Tests.{first_to}
 use Rattle.paper.specs.declared.Refusal.{Refusal}
@@ -32,26 +32,24 @@ use Rattle.valuation.specs.Bounds.{Bounds}
 use Rattle.valuation.proofs.KeptRecords.{kept-bounds, kept-report}
 use Rattle.load.specs.Walk.{kept_in}
 use Rattle.load.specs.Load.{of_records, AllLoaded}
-use Rattle.book.specs.declared.assess.Assessed.{Assessed}
-use Rattle.book.specs.declared.assess.Assessed.TheVariants as assessed
-use Rattle.book.specs.Assessed.{told, turned_away, Answers, Assesses}
+use Rattle.book.specs.Assessed.{told, without_place, Answers, Assesses}
 
 -- ---- by the outcome
 
 -- a refusal tells of no curve
-no-curves : {o : Checked (List Record)} (f : Fault) (curves : ℕ) (kept : List Record) → assessed.Refused f ≡ assessed.Reported curves → o ≡ accepted kept → MaskOf curves (curved kept)
+no-curves : {o : Checked (List Record)} (f : Fault) (curves : ℕ) (kept : List Record) → ◌≡◌ {A = Result ℕ Fault} (Err f) (Ok curves) → o ≡ accepted kept → MaskOf curves (curved kept)
 no-curves f curves kept e also = let z : ◌≡◌ {A = ℕ} 0 1 = cc in absurd (omega arith)
 
 -- a refusal that touches nothing
 pub untouched : {o : Checked (List Record)} {T : ℕ} {report ledger : List ℤ} (q : Refusal)
-    → o ≡ refused q 0 → touches_nothing q ≡ true → Answers o T report ledger (turned_away q) report ledger
+    → o ≡ refused q 0 → touches_nothing q ≡ true → Answers o T report ledger (Err (without_place q)) report ledger
 unfolding told answer_of report_after ledger_after
 untouched q e t = record { says = rw e; curves-are = no-curves (record { cause = q; place = 0 }); report-is = rw e; ledger-is = rw (e, t) }
 
 -- a refusal that clears a ledger of just the room
 cleared : {o : Checked (List Record)} {T : ℕ} {report ledger : List ℤ} (full ledger' : List ℤ) (f : Fault)
     → o ≡ refused f.cause f.place → touches_nothing f.cause ≡ false → length ledger ≡ cells currencies → length full ≡ cells currencies → ledger' ≡ replicate (length full) (pos 0)
-    → Answers o T report ledger (assessed.Refused f) report ledger'
+    → Answers o T report ledger (Err f) report ledger'
 unfolding told answer_of report_after ledger_after
 cleared {ledger = ledger} full ledger' f e t long same is-clear = record {
   says = rw e;
@@ -60,7 +58,7 @@ cleared {ledger = ledger} full ledger' f e t long same is-clear = record {
   ledger-is = is-clear ∙ rw (e, t, same, drop_of_length-le ledger {i = cells currencies} (omega arith), append-nil (replicate (cells currencies) (pos 0)));
 }
 
-one-mask : (curves curves' : ℕ) (kept kept' : List Record) → assessed.Reported curves ≡ assessed.Reported curves' → ◌≡◌ {A = Checked (List Record)} (accepted kept) (accepted kept')
+one-mask : (curves curves' : ℕ) (kept kept' : List Record) → ◌≡◌ {A = Result ℕ Fault} (Ok curves) (Ok curves') → ◌≡◌ {A = Checked (List Record)} (accepted kept) (accepted kept')
     → MaskOf curves (curved kept) → MaskOf curves' (curved kept')
 one-mask curves curves' kept kept' e f p =
     let mask : curves ≡ curves' = cc in
@@ -94,12 +92,12 @@ module _ (book : List ℕ) (curves : ℕ) (a : Arrays) (holds : a ≡ arrays_of 
 
 module _ (book : List ℕ) (T : ℕ) (report ledger : List ℤ) (ledger-long : length ledger ≡ cells currencies) where
   pub answers-refused : (full ledger' : List ℤ) (f : Fault) → of_records book ≡ refused f.cause f.place → length full ≡ cells currencies → ledger' ≡ replicate (length full) (pos 0)
-      → Answers (of_records book) T report ledger (assessed.Refused f) report ledger'
+      → Answers (of_records book) T report ledger (Err f) report ledger'
   answers-refused full ledger' f e same is-clear = cleared full ledger' f e (cause-of (records-good currencies book) f.cause f.place e) ledger-long same is-clear
 
   module _ (curves : ℕ) (a : Arrays) (holds : a ≡ arrays_of (kept_in book)) (all : AllLoaded book curves) where
     pub answers-reported : length report ≡ figures currencies
-        → Answers (of_records book) T report ledger (assessed.Reported curves) (report_of currencies (totals_by a.ledger a.add_ons a.rates) T) a.ledger
+        → Answers (of_records book) T report ledger (Ok curves) (report_of currencies (totals_by a.ledger a.add_ons a.rates) T) a.ledger
     unfolding told answer_of report_after ledger_after arrays_of
     answers-reported report-long =
         let accepts : of_records book ≡ accepted (kept_in book) = all.loaded in
@@ -134,17 +132,9 @@ pub small-ledger : (n k : ℕ) → figures currencies ≤ n → room_too_small c
 unfolding room_too_small
 small-ledger n k h = rw (le-ltb n (figures currencies) h)
 
-pub no-capital : (T : ℕ) → T < 1 → bad_capital T ≡ true
+pub capital-in : (T : ℕ) (b : Bool) → b ≡ (1 up_to T && T up_to 1_000_000_000_000) → not b ≡ bad_capital T
 unfolding bad_capital
-no-capital T h = rw (lt-leb 1 T h)
-
-pub much-capital : (T : ℕ) → 1 ≤ T → bad_capital T ≡ (1_000_000_000_000 below T)
-unfolding bad_capital
-much-capital T h = rw (le-leb 1 T h) (above (T up_to 1_000_000_000_000) refl)
-  where
-    above : (b : Bool) → (T up_to 1_000_000_000_000) ≡ b → not b ≡ (1_000_000_000_000 below T)
-    above true e = sym (le-ltb 1_000_000_000_000 T (leb-true T 1_000_000_000_000 e))
-    above false e = sym (lt-ltb 1_000_000_000_000 T (leb-false T 1_000_000_000_000 e))
+capital-in T b e = ap not e
 
 pub room-enough : (n k : ℕ) → room_too_small currencies n k ≡ false → (figures currencies ≤ n) × (cells currencies ≤ k)
 unfolding room_too_small
@@ -156,17 +146,17 @@ unfolding bad_capital
 capital-fits T e = let f = both (1 up_to T) (T up_to 1_000_000_000_000) (not-false _ e) in (leb-true 1 T f.0, leb-true T 1_000_000_000_000 f.1)
 
 module _ (book : List ℕ) (T : ℕ) (report ledger : List ℤ) where
-  pub room-refused : room_too_small currencies (length report) (length ledger) ≡ true → Assesses book T report ledger (turned_away RoomTooSmall) report ledger
+  pub room-refused : room_too_small currencies (length report) (length ledger) ≡ true → Assesses book T report ledger (Err (without_place RoomTooSmall)) report ledger
   unfolding outcome ◌>>◌ unless touches_nothing number_of
   room-refused h = record { answers = untouched RoomTooSmall (rw h) refl }
 
   module _ (r : room_too_small currencies (length report) (length ledger) ≡ false) where
-    pub book-refused : longest_book < length book → Assesses book T report ledger (turned_away BookTooLong) report ledger
+    pub book-refused : longest_book < length book → Assesses book T report ledger (Err (without_place BookTooLong)) report ledger
     unfolding outcome ◌>>◌ unless book_too_long touches_nothing number_of
     book-refused h = record { answers = untouched BookTooLong (rw (r, lt-ltb _ _ h)) refl }
 
     module _ (b : length book ≤ longest_book) where
-      pub capital-refused : bad_capital T ≡ true → Assesses book T report ledger (turned_away BadCapital) report ledger
+      pub capital-refused : bad_capital T ≡ true → Assesses book T report ledger (Err (without_place BadCapital)) report ledger
       unfolding outcome ◌>>◌ unless book_too_long touches_nothing number_of
       capital-refused h = record { answers = untouched BadCapital (rw (r, le-ltb _ _ b, h)) refl }
 
@@ -175,7 +165,7 @@ module _ (book : List ℕ) (T : ℕ) (report ledger : List ℤ) where
       left h = rw (r, le-ltb _ _ b, h)
 
       -- the rooms' further cells stay
-      wider : (o : Checked (List Record)) (a : Assessed) (report' ledger' : List ℤ)
+      wider : (o : Checked (List Record)) (a : Result ℕ Fault) (report' ledger' : List ℤ)
           → Answers o T (take (figures currencies) report) (take (cells currencies) ledger) a report' ledger'
           → Answers o T report ledger a (report' ++ drop (figures currencies) report) (ledger' ++ drop (cells currencies) ledger)
       unfolding report_after ledger_after
@@ -198,6 +188,6 @@ module _ (book : List ℕ) (T : ℕ) (report ledger : List ℤ) where
               ap (λ (x : List ℤ). (replicate (cells currencies) (pos 0) ++ x) ++ drop (cells currencies) ledger) (none_left (cells currencies) ledger (room-enough _ _ r).1)
               ∙ ap (λ (x : List ℤ). x ++ drop (cells currencies) ledger) (append-nil (replicate (cells currencies) (pos 0)))
 
-      pub by-records : bad_capital T ≡ false → (a : Assessed) (report' ledger' : List ℤ) → Answers (of_records book) T (take (figures currencies) report) (take (cells currencies) ledger) a report' ledger'
+      pub by-records : bad_capital T ≡ false → (a : Result ℕ Fault) (report' ledger' : List ℤ) → Answers (of_records book) T (take (figures currencies) report) (take (cells currencies) ledger) a report' ledger'
           → Assesses book T report ledger a (report' ++ drop (figures currencies) report) (ledger' ++ drop (cells currencies) ledger)
       by-records h a report' ledger' s = record { answers = rw (left h) (wider (of_records book) a report' ledger' s) }

@@ -5,7 +5,9 @@ use mathlib.Core.Path.{◌≡◌, sym, ap, ◌∙◌}
 use native.Mathlib.Omega.{arith}
 use lib.IntN.{ℤ, pos}
 use lib.ListN.{length, get_or, drop, get_or-append, length-append}
+use Rattle.std.specs.Prelude.{Result}
 use Rattle.laws.proofs.Lists.{tabulate_from-length, tabulate-length}
+use Rattle.paper.specs.declared.Fault.{Fault}
 use Rattle.paper.specs.Ladder.{buckets}
 use Rattle.paper.specs.Refusals.{Checked, accepted}
 use Rattle.paper.specs.Records.{Record, currencies}
@@ -17,7 +19,6 @@ use Rattle.paper.specs.Demand3.{figure, Demand3}
 use Rattle.paper.proofs.Demand3.{accepted-true}
 use Rattle.arrays.specs.Rooms.{cell_by}
 use Rattle.arrays.proofs.More.{cell-is}
-use Rattle.book.specs.declared.assess.Assessed.{Assessed}
 use Rattle.book.specs.Assessed.{Assesses, Truthful}
 
 -- ---- lengths
@@ -44,7 +45,7 @@ same-figures {t} {T} {report} {other} e d = record {
   close = rw (e (6 * currencies + 6) (omega arith), e (6 * currencies + 8) (omega arith), e (6 * currencies + 9) (omega arith)) d.close;
 }
 
-pub truthful : {book : List ℕ} {T : ℕ} {report ledger report' ledger' : List ℤ} {a : Assessed} → Assesses book T report ledger a report' ledger' → Truthful book T report ledger report'
+pub truthful : {book : List ℕ} {T : ℕ} {report ledger report' ledger' : List ℤ} {a : Result ℕ Fault} → Assesses book T report ledger a report' ledger' → Truthful book T report ledger report'
 unfolding report_after
 truthful {book} {T} {report} {ledger} {report'} p = record {
   holds = λ kept e.
@@ -56,14 +57,14 @@ truthful {book} {T} {report} {ledger} {report'} p = record {
 }
 
 -- the second clause follows from the first
-pub promised : {book : List ℕ} {T : ℕ} {report ledger report' ledger' : List ℤ} {a : Assessed} → Assesses book T report ledger a report' ledger'
+pub promised : {book : List ℕ} {T : ℕ} {report ledger report' ledger' : List ℤ} {a : Result ℕ Fault} → Assesses book T report ledger a report' ledger'
     → Assesses book T report ledger a report' ledger' × Truthful book T report ledger report'
 promised p = (p, truthful p)
 
 -- ---- the flows of demand 3 are those of the ledger's room
 
 -- 133(currency - 1) + 19(scenario) + (bucket - 1), with k for bucket - 1
-pub ledger-flows : {book : List ℕ} {T : ℕ} {report ledger report' ledger' : List ℤ} {a : Assessed} → Assesses book T report ledger a report' ledger'
+pub ledger-flows : {book : List ℕ} {T : ℕ} {report ledger report' ledger' : List ℤ} {a : Result ℕ Fault} → Assesses book T report ledger a report' ledger'
     → (kept : List Record) → outcome currencies book T (length report) (length ledger) ≡ accepted kept
     → (c i k : ℕ) → 1 ≤ c → c ≤ currencies → i < scenarios → k < buckets → get_or ledger' (133 * (c - 1) + 19 * i + k) (pos 0) ≡ (totals kept).cell c i k
 unfolding ledger_after cell_by

@@ -5,6 +5,7 @@ use mathlib.Core.Path.{◌≡◌, refl, sym, ap, ◌∙◌}
 use native.Mathlib.Omega.{arith}
 use lib.IntN.{ℤ, pos}
 use lib.ListN.{get_or, drop, get_or-append}
+use Rattle.std.specs.Prelude.{Result, Ok, Err}
 use Rattle.paper.specs.declared.Fault.{Fault}
 use Rattle.paper.specs.Refusals.{Checked, accepted, refused, answer_of}
 use Rattle.paper.specs.Records.{Record, currencies}
@@ -19,8 +20,6 @@ use Rattle.paper.proofs.Walk.{records-good}
 use Rattle.paper.proofs.Report.{measure-reported}
 use Rattle.verdict.specs.Figures.{most_of_a_sum}
 use Rattle.valuation.proofs.KeptRecords.{kept-measure}
-use Rattle.book.specs.declared.assess.Assessed.{Assessed}
-use Rattle.book.specs.declared.assess.Assessed.TheVariants.{Reported, Refused}
 use Rattle.book.specs.Assessed.{told, Answers}
 use Rattle.book.proofs.Truth.{report-long}
 use Rattle.detailing.specs.Detailed.{behind_kept}
@@ -45,13 +44,13 @@ pub record Reports (input : List ℕ) (report' : List ℤ) : Type 0 where
   pub measure-is : get_or report' (measure_at currencies) (pos 0) ≡ pos (measure currencies (change (totals kept)))
   pub measure-fits : measure currencies (change (totals kept)) ≤ most_of_a_sum
 
-reported-kept : (o : Checked (List Record)) (a : Assessed) (curves : ℕ) → a ≡ Reported curves → told a ≡ answer_of o → (kept : List Record) × (o ≡ accepted kept)
+reported-kept : (o : Checked (List Record)) (a : Result ℕ Fault) (curves : ℕ) → a ≡ Ok curves → told a ≡ answer_of o → (kept : List Record) × (o ≡ accepted kept)
 unfolding told answer_of
 reported-kept (accepted kept) a curves e s = (kept, refl)
 reported-kept (refused q place) a curves e s = let said = ap told (sym e) ∙ s in let z : ◌≡◌ {A = ℕ} 0 1 = cc in absurd (omega arith)
 
-module _ (input : List ℕ) {report ledger report' ledger' : List ℤ} (a : Assessed) (s : Answers (program_outcome currencies input) (capital_in input) report ledger a report' ledger') where
-  pub reports : (curves : ℕ) → a ≡ Reported curves → Reports input report'
+module _ (input : List ℕ) {report ledger report' ledger' : List ℤ} (a : Result ℕ Fault) (s : Answers (program_outcome currencies input) (capital_in input) report ledger a report' ledger') where
+  pub reports : (curves : ℕ) → a ≡ Ok curves → Reports input report'
   reports curves e =
       let k = reported-kept (program_outcome currencies input) a curves e s.says in
       let own = accepted-input input k.0 k.1 in
@@ -65,12 +64,12 @@ module _ (input : List ℕ) {report ledger report' ledger' : List ℤ} (a : Asse
 
   -- ---- a refusal: nothing stands behind it
 
-  none-behind : (o : Checked (List Record)) (f : Fault) → a ≡ Refused f → told a ≡ answer_of o → behind currencies (drop 8 input) o (capital_in input) ≡ []
+  none-behind : (o : Checked (List Record)) (f : Fault) → a ≡ Err f → told a ≡ answer_of o → behind currencies (drop 8 input) o (capital_in input) ≡ []
   unfolding behind told answer_of
   none-behind (accepted kept) f e s = let said = ap told (sym e) ∙ s in let z : ◌≡◌ {A = ℕ} 0 1 = cc in absurd (omega arith)
   none-behind (refused q place) f e s = refl
 
-  pub refusal-detailed : (f : Fault) → a ≡ Refused f → printed currencies input ≡ detailed currencies input
+  pub refusal-detailed : (f : Fault) → a ≡ Err f → printed currencies input ≡ detailed currencies input
   unfolding detailed
   refusal-detailed f e =
       sym (append-nil (printed currencies input)) ∙ ap (λ (l : List ℕ). printed currencies input ++ l) (sym (none-behind (program_outcome currencies input) f e s.says))

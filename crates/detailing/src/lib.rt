@@ -11,11 +11,10 @@ ghost use Rattle.load.specs.Load.{of_records};
 ghost use Rattle.detail.specs.Behind.{longest_behind};
 ghost use Rattle.detailing.specs.Detailed.{behind_kept, longest_detail};
 
-use book::assess::Assessed;
 use detail::LONGEST_BEHIND;
 use detail::behind::Behind;
 use detail::standing::Standing;
-use load::{Loaded, load};
+use load::load;
 use paper::{CELLS, CHANGES, CURRENCIES, FIGURES, SCENARIOS, SHOCKED};
 use printing::{CAPITAL, answer, capital_in, print_refusal};
 use scales::Thousands;
@@ -48,8 +47,8 @@ fn put_behind(book: &[u8], standing: &Standing, page: &mut Page<'_>)
         &mut sizes,
         &mut options,
     ) {
-        Loaded::Refused(_) => {}
-        Loaded::Kept(curved) => {
+        Err(_) => {}
+        Ok(curved) => {
             let count = tally(book, &mut counts);
             let behind = Behind {
                 ledger: &ledger,
@@ -72,8 +71,8 @@ pub fn print_detail(input: &[u8], out: &mut [u8]) -> usize
     let mut report = [0i64; FIGURES];
     let mut ledger = [0i64; CELLS];
     match answer(input, &mut report, &mut ledger) {
-        Assessed::Refused(fault) => print_refusal(fault, out),
-        Assessed::Reported(curves) => {
+        Err(fault) => print_refusal(fault, out),
+        Ok(curves) => {
             let standing = Standing {
                 measure: Thousands(report[MEASURE] as u64),
                 tier1: capital_in(input),

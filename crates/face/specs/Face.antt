@@ -1,6 +1,7 @@
 -- What the face for other languages promises: the same as `assess` and `widen`, with the answer as a number and a place.
-use Rattle.std.specs.Prelude.{ℕ, List, ◌≡◌, ℤ, length, set}
-use Rattle.paper.specs.Refusals.{Checked, Answer, reported, turned_down, answer_of}
+use Rattle.std.specs.Prelude.{ℕ, List, ◌≡◌, ℤ, length, set, Result, Ok, Err}
+use Rattle.paper.specs.declared.Fault.{Fault}
+use Rattle.paper.specs.Refusals.{number_of, Checked, Answer, reported, turned_down, answer_of}
 use Rattle.paper.specs.Records.{Record, currencies}
 use Rattle.paper.specs.Book.{outcome, report_after, ledger_after}
 use Rattle.paper.specs.Stored.{report_widened}
@@ -15,6 +16,11 @@ number_in (turned_down number place) = number
 unfoldable pub place_in : Answer → ℕ
 place_in reported = 0
 place_in (turned_down number place) = place
+
+-- of whichever function the answer is
+unfoldable pub told : {A : Type 0} → Result A Fault → Answer
+told (Ok x) = reported
+told (Err f) = turned_down (number_of f.cause) f.place
 
 -- in the first cell, if there is one
 abbrev pub with_place : ℕ → List ℕ → List ℕ

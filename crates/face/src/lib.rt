@@ -4,9 +4,8 @@
 ghost use Rattle.book.specs.Assessed.{Truthful};
 ghost use Rattle.face.specs.Face.{Faces};
 
-use book::assess::{Assessed, assess};
-use book::refusal::refusal_number;
-use place::put_place;
+use book::assess::assess;
+use place::tell;
 use scales::Thousands;
 
 mod place;
@@ -24,15 +23,5 @@ pub extern "C" fn vorlegan_assess(
     ensures faces { Faces book.now tier1 report ledger place result }
     ensures truthful { Truthful book.now tier1 report.old ledger.old report.new }
 {
-    match assess(book, Thousands(tier1), report, ledger) {
-        Assessed::Reported(_) => {
-            put_place(place, 0);
-            0
-        }
-        Assessed::Refused(fault) => {
-            put_place(place, fault.place as u64);
-            let cause = fault.cause;
-            refusal_number(cause)
-        }
-    }
+    tell(assess(book, Thousands(tier1), report, ledger), place)
 }

@@ -2,9 +2,8 @@
 ghost use Rattle.stored.specs.Stored.{AsFresh};
 ghost use Rattle.face.specs.Face.{FacesWidening};
 
-use crate::place::put_place;
-use book::refusal::refusal_number;
-use stored::{Widened, widen};
+use crate::place::tell;
+use stored::widen;
 
 // 0 where the report was written, else the refusal's number; the place is 0 in either case.
 #[unsafe(no_mangle)]
@@ -12,15 +11,5 @@ pub extern "C" fn vorlegan_widen(stored: &[i64], report: &mut [i64], place: &mut
     ensures faces_widening { FacesWidening stored.now report place result }
     ensures as_fresh { AsFresh stored.now report.old report.new }
 {
-    match widen(stored, report) {
-        Widened::Written => {
-            put_place(place, 0);
-            0
-        }
-        Widened::Refused(fault) => {
-            put_place(place, fault.place as u64);
-            let cause = fault.cause;
-            refusal_number(cause)
-        }
-    }
+    tell(widen(stored, report), place)
 }

@@ -6,6 +6,7 @@ use native.Mathlib.Omega.{arith}
 use borrow.Author.Tests.{lt-ltb, le-ltb}
 use lib.IntN.{ℤ}
 use lib.ListN.{length, drop, drop_of_length-le}
+use Rattle.std.specs.Prelude.{Result, Ok, Err}
 use Rattle.paper.specs.declared.Fault.{Fault}
 use Rattle.paper.specs.declared.Refusal.TheVariants.{BadCapital, BookTooLong}
 use Rattle.paper.specs.Refusals.{number_of, Checked, accepted, refused, answer_of}
@@ -16,8 +17,6 @@ use Rattle.paper.specs.Book.{outcome, report_after}
 use Rattle.paper.specs.Program.{capital_in, program_outcome, changes_line, report_text, refusal_text, text_of, printed}
 use Rattle.arrays.specs.Masks.{curved_by}
 use Rattle.text.proofs.CurvedLines.{lines-alike}
-use Rattle.book.specs.declared.assess.Assessed.{Assessed}
-use Rattle.book.specs.declared.assess.Assessed.TheVariants.{Reported, Refused}
 use Rattle.book.specs.Assessed.{told, Answers}
 
 -- a text at the start of a buffer, and how long it is
@@ -45,8 +44,8 @@ module _ (input : List ℕ) where
 
 -- ---- the answer
 
-module _ {T : ℕ} {report ledger report' ledger' : List ℤ} (a : Assessed) where
-  reports : (o : Checked (List Record)) (curves : ℕ) → a ≡ Reported curves → length report ≡ figures currencies → Answers o T report ledger a report' ledger' → report_text currencies (curved_by curves) report' ≡ text_of currencies o T
+module _ {T : ℕ} {report ledger report' ledger' : List ℤ} (a : Result ℕ Fault) where
+  reports : (o : Checked (List Record)) (curves : ℕ) → a ≡ Ok curves → length report ≡ figures currencies → Answers o T report ledger a report' ledger' → report_text currencies (curved_by curves) report' ≡ text_of currencies o T
   unfolding text_of report_text report_after told answer_of
   reports (accepted kept) curves e long s =
       let is : report' ≡ report_of currencies (totals kept) T =
@@ -56,7 +55,7 @@ module _ {T : ℕ} {report ledger report' ledger' : List ℤ} (a : Assessed) whe
       rw (is, lines-alike (curved_by curves) (curved kept) text text currencies (s.curves-are curves kept e refl).has-it (λ c l h. refl))
   reports (refused q place) curves e long s = let said = ap told (sym e) ∙ s.says in let z : ◌≡◌ {A = ℕ} 0 1 = cc in absurd (omega arith)
 
-  refuses : (o : Checked (List Record)) (f : Fault) → a ≡ Refused f → Answers o T report ledger a report' ledger'
+  refuses : (o : Checked (List Record)) (f : Fault) → a ≡ Err f → Answers o T report ledger a report' ledger'
       → refusal_text (number_of f.cause) f.place ≡ text_of currencies o T
   unfolding text_of told answer_of
   refuses (accepted kept) f e s = let said = ap told (sym e) ∙ s.says in let z : ◌≡◌ {A = ℕ} 0 1 = cc in absurd (omega arith)
@@ -67,10 +66,10 @@ module _ {T : ℕ} {report ledger report' ledger' : List ℤ} (a : Assessed) whe
       ap₂ refusal_text number there
 
   module _ (input : List ℕ) (s : Answers (program_outcome currencies input) T report ledger a report' ledger') (t : T ≡ capital_in input) where
-    pub prints-report : (curves : ℕ) → a ≡ Reported curves → length report ≡ figures currencies → report_text currencies (curved_by curves) report' ≡ printed currencies input
+    pub prints-report : (curves : ℕ) → a ≡ Ok curves → length report ≡ figures currencies → report_text currencies (curved_by curves) report' ≡ printed currencies input
     unfolding printed
     prints-report curves e long = reports (program_outcome currencies input) curves e long s ∙ ap (text_of currencies (program_outcome currencies input)) t
 
-    pub prints-refusal : (f : Fault) → a ≡ Refused f → refusal_text (number_of f.cause) f.place ≡ printed currencies input
+    pub prints-refusal : (f : Fault) → a ≡ Err f → refusal_text (number_of f.cause) f.place ≡ printed currencies input
     unfolding printed
     prints-refusal f e = refuses (program_outcome currencies input) f e s ∙ ap (text_of currencies (program_outcome currencies input)) t

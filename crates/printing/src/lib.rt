@@ -9,8 +9,7 @@ ghost use Rattle.paper.specs.Program.{capital_in, program_outcome, refusal_text,
 ghost use Rattle.book.specs.Assessed.{Answers};
 ghost use Rattle.text.specs.Longest.{longest_text};
 
-use book::assess::{Assessed, assess, refused};
-use book::refusal::refusal_number;
+use book::assess::{assess, without_place};
 use fields::bytes::four_at;
 use paper::{CELLS, FIGURES, Fault, LONGEST_BOOK, Refusal};
 use scales::Thousands;
@@ -31,15 +30,15 @@ pub fn capital_in(input: &[u8]) -> Thousands
 }
 
 // The answer to an input, in rooms that are just as long as a report and a ledger.
-pub fn answer(input: &[u8], report: &mut [i64], ledger: &mut [i64]) -> Assessed
+pub fn answer(input: &[u8], report: &mut [i64], ledger: &mut [i64]) -> Result<u32, Fault>
     requires { (length report.old ≡ figures currencies) × (length ledger.old ≡ cells currencies) }
     ensures { Answers (program_outcome currencies input.now) (capital_in input.now) report.old ledger.old result report.new ledger.new }
 {
     if input.len() > LONGEST_INPUT {
-        return refused(Refusal::BookTooLong);
+        return Err(without_place(Refusal::BookTooLong));
     }
     if input.len() < CAPITAL {
-        return refused(Refusal::BadCapital);
+        return Err(without_place(Refusal::BadCapital));
     }
     let tier1 = capital_in(input);
     assess(&input[CAPITAL..], tier1, report, ledger)
@@ -51,8 +50,7 @@ pub fn print_refusal(fault: Fault, out: &mut [u8]) -> usize
     ensures value { (result ≡ length (refusal_text (number_of fault.cause) fault.place)) × (result ≤ 64) }
     ensures out_after { out.new ≡ refusal_text (number_of fault.cause) fault.place ++ drop result out.old }
 {
-    let cause = fault.cause;
-    let number = refusal_number(cause) as u64;
+    let number = u32::from(fault.cause) as u64;
     write_refusal(number, fault.place as u64, out)
 }
 
@@ -65,7 +63,7 @@ pub fn print_answer(input: &[u8], out: &mut [u8]) -> usize
     let mut report = [0i64; FIGURES];
     let mut ledger = [0i64; CELLS];
     match answer(input, &mut report, &mut ledger) {
-        Assessed::Reported(curves) => write_report(&report, curves, out),
-        Assessed::Refused(fault) => print_refusal(fault, out),
+        Ok(curves) => write_report(&report, curves, out),
+        Err(fault) => print_refusal(fault, out),
     }
 }

@@ -8,6 +8,7 @@ use borrow.Author.Tests.{eq-eqb, ne_eqb, eqb-true, le-ltb, ltb-false, not-false}
 use lib.IntN.{ℤ, pos}
 use lib.ListN.{length, take, drop, replicate, length-append, length-replicate, length-drop}
 use lib.Seq.{length-take-le, take_all}
+use Rattle.std.specs.Prelude.{Ok, Err}
 use Rattle.laws.specs.Tests.{◌is◌, ◌below◌}
 use Rattle.laws.specs.Lists.{section, splice}
 use Rattle.laws.proofs.Tests.{or-false}
@@ -22,7 +23,6 @@ use Rattle.paper.specs.Verdict.{changes_of, report_from, report_of}
 use Rattle.paper.specs.Book.{report_after}
 use Rattle.paper.specs.Stored.{stored_currencies, widened, cannot_widen, widening, report_widened}
 use Rattle.paper.proofs.WiderReport.{stored-accepted, stored-widened}
-use Rattle.stored.specs.declared.Widened.TheVariants.{Written, Refused}
 use Rattle.stored.specs.Stored.{told, Widens, AsFresh}
 
 -- ---- 18
@@ -34,9 +34,9 @@ widens numbers room e =
     let both = or-false (not (numbers is figures stored_currencies)) (room below figures currencies) e in
     (eqb-true numbers (figures stored_currencies) (not-false _ both.0), ltb-false room (figures currencies) both.1)
 
-pub another-length : (numbers room : ℕ) → (numbers ≡ figures stored_currencies → ⊥) → true ≡ cannot_widen stored_currencies currencies numbers room
+pub other-length : (numbers room : ℕ) → (numbers ≡ figures stored_currencies → ⊥) → not (numbers is figures stored_currencies) ≡ cannot_widen stored_currencies currencies numbers room
 unfolding cannot_widen
-another-length numbers room other = rw (ne_eqb numbers (figures stored_currencies) other)
+other-length numbers room other = rw (ne_eqb numbers (figures stored_currencies) other)
 
 pub by-the-room : (numbers room : ℕ) → numbers ≡ figures stored_currencies → (room below figures currencies) ≡ cannot_widen stored_currencies currencies numbers room
 unfolding cannot_widen
@@ -71,7 +71,7 @@ unfolding report_of report_from changes_of
 report-long t T = simp (length-append, tabulate_from-length)
 
 pub widen-refused : (stored report : List ℤ) → cannot_widen stored_currencies currencies (length stored) (length report) ≡ true
-    → Widens stored report (Refused (record { cause = RoomTooSmall; place = 0 })) report × AsFresh stored report report
+    → Widens stored report (Err (record { cause = RoomTooSmall; place = 0 })) report × AsFresh stored report report
 unfolding told answer_of widening report_widened ◌>>◌ unless
 widen-refused stored report e = (
   record { says = rw e; report-is = rw e },
@@ -84,7 +84,7 @@ widen-refused stored report e = (
 )
 
 pub widen-written : (stored report : List ℤ) {report' : List ℤ} → cannot_widen stored_currencies currencies (length stored) (length report) ≡ false
-    → report' ≡ widened stored_currencies currencies stored ++ drop (figures currencies) report → Widens stored report Written report' × AsFresh stored report report'
+    → report' ≡ widened stored_currencies currencies stored ++ drop (figures currencies) report → Widens stored report (Ok tt) report' × AsFresh stored report report'
 unfolding told answer_of widening report_widened report_after room_too_small ◌>>◌ unless
 widen-written stored report e r = (
   record { says = rw e; report-is = r ∙ rw e },

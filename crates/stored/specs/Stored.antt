@@ -1,23 +1,22 @@
 -- What `widen` promises, for all lists and rooms.
-use Rattle.std.specs.Prelude.{ℕ, ◌≤◌, List, ◌≡◌, ℤ, length}
+use Rattle.std.specs.Prelude.{ℕ, ◌≤◌, List, ◌≡◌, ℤ, length, Result, Ok, Err}
+use Rattle.paper.specs.declared.Fault.{Fault}
 use Rattle.paper.specs.Refusals.{number_of, Checked, accepted, Answer, reported, turned_down, answer_of}
 use Rattle.paper.specs.Records.{Record, currencies}
 use Rattle.paper.specs.Ledger.{totals, cells, figures}
 use Rattle.paper.specs.Verdict.{report_of}
 use Rattle.paper.specs.Book.{outcome, report_after}
 use Rattle.paper.specs.Stored.{stored_currencies, widening, report_widened}
-use Rattle.stored.specs.declared.Widened.{Widened}
-use Rattle.stored.specs.declared.Widened.TheVariants.{Written, Refused}
 
-unfoldable pub told : Widened → Answer
-told Written = reported
-told (Refused f) = turned_down (number_of f.cause) f.place
+unfoldable pub told : Result (Unit {0}) Fault → Answer
+told (Ok done) = reported
+told (Err f) = turned_down (number_of f.cause) f.place
 
 abbrev pub widening_of : (stored report : List ℤ) → Checked (List ℤ)
 widening_of stored report = widening stored_currencies currencies stored (length report)
 
 -- the answer, and what it leaves in the room
-pub record Widens (stored report : List ℤ) (answer : Widened) (report' : List ℤ) : Type 0 where
+pub record Widens (stored report : List ℤ) (answer : Result (Unit {0}) Fault) (report' : List ℤ) : Type 0 where
   pub says : told answer ≡ answer_of (widening_of stored report)
   pub report-is : report' ≡ report_widened currencies (widening_of stored report) report
 

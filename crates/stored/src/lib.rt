@@ -10,20 +10,10 @@ ghost use Rattle.stored.specs.Stored.{Widens, AsFresh};
 
 use paper::{CHANGES, FIGURES, Fault, Refusal, STORED_CHANGES, STORED_FIGURES};
 
-// The report was written; or it was not, for a cause at a place.
-#[derive(Clone, Copy)]
-pub enum Widened {
-    Written,
-    Refused(Fault),
-}
-
 fn cannot_widen(stored: usize, report: usize) -> bool
     ensures { result ≡ cannot_widen stored_currencies currencies stored report }
 {
-    if stored != STORED_FIGURES {
-        return true;
-    }
-    report < FIGURES
+    stored != STORED_FIGURES || report < FIGURES
 }
 
 // The list and the room are as long as the one report and the other.
@@ -37,16 +27,16 @@ fn write_widened(stored: &[i64], report: &mut [i64])
 }
 
 // A list of another length than a stored report has and a room that is too small are turned down alike.
-pub fn widen(stored: &[i64], report: &mut [i64]) -> Widened
+pub fn widen(stored: &[i64], report: &mut [i64]) -> Result<(), Fault>
     ensures widens { Widens stored.now report.old result report.new }
     ensures as_fresh { AsFresh stored.now report.old report.new }
 {
     if cannot_widen(stored.len(), report.len()) {
-        return Widened::Refused(Fault {
+        return Err(Fault {
             cause: Refusal::RoomTooSmall,
             place: 0,
         });
     }
     write_widened(stored, &mut report[0..FIGURES]);
-    Widened::Written
+    Ok(())
 }

@@ -1,7 +1,6 @@
 // Rooms that are too short (18).
 use crate::show::say;
-use book::assess::{Assessed, assess};
-use book::refusal::refusal_number;
+use book::assess::assess;
 use scales::Thousands;
 use text::refusal::write_refusal;
 
@@ -15,9 +14,9 @@ fn show_refusal(rt: &impl Print, label: &[u8], number: u64, place: u64) {
 // `print_answer` lends rooms that suffice, so 18 is asked of `assess` itself; a report is shown as nothing.
 pub fn show_room(rt: &impl Print, label: &[u8], report: &mut [i64], ledger: &mut [i64]) {
     let empty = [0u8; 0];
-    let Assessed::Refused(fault) = assess(&empty, Thousands(1), report, ledger) else {
+    let Err(fault) = assess(&empty, Thousands(1), report, ledger) else {
         return;
     };
-    let cause = fault.cause;
-    show_refusal(rt, label, refusal_number(cause) as u64, fault.place as u64);
+    let number = u32::from(fault.cause) as u64;
+    show_refusal(rt, label, number, fault.place as u64);
 }

@@ -16,7 +16,7 @@ load-requires c =
 pub invariant_of-behind : goal.invariant_of-behind
 invariant_of-behind c =
     let loads = c.load.ensures in
-    let all = loads.all _ c.in-Kept.is in
+    let all = loads.all _ c.in-Ok.is in
     let sized = all-sized _ _ _ loads.arrays all in record {
       lengths = record {
         ledger-long = sized.ledger-long;
@@ -27,15 +27,22 @@ invariant_of-behind c =
       bounds = bounds-hold _ _ _ loads.arrays all;
     }
 
-pub returns-in-Refused : goal.returns-in-Refused
-returns-in-Refused c =
-    let stopped = c.load.ensures.stopped _ c.in-Refused.is in
+<<<<<<< HEAD:crates/detailing/proofs/put_behind/Answers.antt
+pub returns-in-Err : goal.returns-in-Err
+returns-in-Err c =
+    let stopped = c.load.ensures.stopped _ c.in-Err.is in
     λ kept e. never (sym stopped ∙ e)
+=======
+pub returns-in-Err : goal.returns-in-Err
+returns-in-Err c =
+    let stopped = c.load.ensures.stopped _ c.in-Err.is in
+    record { upper_bound = omega arith; wrote = λ kept e. never (sym stopped ∙ e) }
+>>>>>>> d9f0c55 (book, stored, face, printing, detailing, vectors: answers are results):crates/detailing/proofs/print_behind/Answers.antt
 
-pub returns-in-Kept : goal.returns-in-Kept
-returns-in-Kept c =
+pub returns-in-Ok : goal.returns-in-Ok
+returns-in-Ok c =
     let loads = c.load.ensures in
-    let all = loads.all _ c.in-Kept.is in
+    let all = loads.all _ c.in-Ok.is in
     let counted = c.tally-count.ensures in
     let standing = c.args.standing.now in
     λ kept e. rw (sym (loaded-text c.args.book.now _ loads.arrays _ all _ _ standing.measure.0 standing.tier1.0 kept counted.counts_after counted.value e)) (c.put.ensures.text, c.put.ensures.longest)

@@ -12,12 +12,12 @@ use Rattle.printing.proofs.answer.Goals as goal
 pub returns-then-input-gt-LONGEST_INPUT : goal.returns-then-input-gt-LONGEST_INPUT
 unfolding touches_nothing number_of
 returns-then-input-gt-LONGEST_INPUT c =
-    rw c.refused.ensures (untouched BookTooLong (long-input _ (omega arith)) refl)
+    rw c.without_place.ensures (untouched BookTooLong (long-input _ (omega arith)) refl)
 
 pub returns-then-input-lt-CAPITAL : goal.returns-then-input-lt-CAPITAL
 unfolding touches_nothing number_of
 returns-then-input-lt-CAPITAL c =
-    rw c.refused-then-input-lt-CAPITAL.ensures (untouched BadCapital (short-input _ (omega arith) (omega arith)) refl)
+    rw c.without_place-then-input-lt-CAPITAL.ensures (untouched BadCapital (short-input _ (omega arith) (omega arith)) refl)
 
 pub returns : goal.returns
 returns c =

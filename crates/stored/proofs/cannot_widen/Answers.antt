@@ -1,9 +1,10 @@
 -- `cannot_widen`: 18 is on the list and on the room.
-use Rattle.stored.proofs.Widening.{another-length, by-the-room}
+use mathlib.Core.Path.{◌∙◌}
+use Rattle.stored.proofs.Widening.{other-length, by-the-room}
 use Rattle.stored.proofs.cannot_widen.Goals as goal
 
 pub returns-then-stored-ne-STORED_FIGURES : goal.returns-then-stored-ne-STORED_FIGURES
-returns-then-stored-ne-STORED_FIGURES c = another-length c.args.stored c.args.report c.if-stored-ne-STORED_FIGURES.true
+returns-then-stored-ne-STORED_FIGURES c = other-length c.args.stored c.args.report c.if-stored-ne-STORED_FIGURES.true
 
-pub returns : goal.returns
-returns c = by-the-room c.args.stored c.args.report c.if-stored-ne-STORED_FIGURES.false
+pub returns-else-stored-ne-STORED_FIGURES : goal.returns-else-stored-ne-STORED_FIGURES
+returns-else-stored-ne-STORED_FIGURES c = by-the-room c.args.stored c.args.report c.if-stored-ne-STORED_FIGURES.false

@@ -10,13 +10,13 @@ use borrow.Author.Rules.{rules}
 use Rattle.book.proofs.assess.assess.Goals as goal
 
 pub returns-then-room_too_small : goal.returns-then-room_too_small
-returns-then-room_too_small c = let w = (promised (room-refused _ _ _ _ (sym c.room_too_small.ensures ∙ c.if-room_too_small.true))) in record { assesses = rw c.refused.ensures w.0; truthful = w.1 }
+returns-then-room_too_small c = let w = (promised (room-refused _ _ _ _ (sym c.room_too_small.ensures ∙ c.if-room_too_small.true))) in record { assesses = rw c.without_place.ensures w.0; truthful = w.1 }
 
 pub returns-then-book-gt-LONGEST_BOOK : goal.returns-then-book-gt-LONGEST_BOOK
-returns-then-book-gt-LONGEST_BOOK c = let w = (promised (book-refused _ _ _ _ (sym c.room_too_small.ensures ∙ c.if-room_too_small.false) c.if-book-gt-LONGEST_BOOK.true)) in record { assesses = rw c.refused-then-book-gt-LONGEST_BOOK.ensures w.0; truthful = w.1 }
+returns-then-book-gt-LONGEST_BOOK c = let w = (promised (book-refused _ _ _ _ (sym c.room_too_small.ensures ∙ c.if-room_too_small.false) c.if-book-gt-LONGEST_BOOK.true)) in record { assesses = rw c.without_place-then-book-gt-LONGEST_BOOK.ensures w.0; truthful = w.1 }
 
 pub returns-then-bad_capital : goal.returns-then-bad_capital
-returns-then-bad_capital c = let w = (promised (capital-refused _ _ _ _ (sym c.room_too_small.ensures ∙ c.if-room_too_small.false) (omega arith) (sym c.bad_capital.ensures ∙ c.if-bad_capital.true))) in record { assesses = rw c.refused-then-bad_capital.ensures w.0; truthful = w.1 }
+returns-then-bad_capital c = let w = (promised (capital-refused _ _ _ _ (sym c.room_too_small.ensures ∙ c.if-room_too_small.false) (omega arith) (sym c.bad_capital.ensures ∙ c.if-bad_capital.true))) in record { assesses = rw c.without_place-then-bad_capital.ensures w.0; truthful = w.1 }
 
 pub slice_bounds-assess_records-end : goal.slice_bounds-assess_records-end
 slice_bounds-assess_records-end c = let long = room-enough _ _ (sym c.room_too_small.ensures ∙ c.if-room_too_small.false) in search (rules, long)
