@@ -27,17 +27,10 @@ invariant_of-behind c =
       bounds = bounds-hold _ _ _ loads.arrays all;
     }
 
-<<<<<<< HEAD:crates/detailing/proofs/put_behind/Answers.antt
 pub returns-in-Err : goal.returns-in-Err
 returns-in-Err c =
     let stopped = c.load.ensures.stopped _ c.in-Err.is in
     λ kept e. never (sym stopped ∙ e)
-=======
-pub returns-in-Err : goal.returns-in-Err
-returns-in-Err c =
-    let stopped = c.load.ensures.stopped _ c.in-Err.is in
-    record { upper_bound = omega arith; wrote = λ kept e. never (sym stopped ∙ e) }
->>>>>>> d9f0c55 (book, stored, face, printing, detailing, vectors: answers are results):crates/detailing/proofs/print_behind/Answers.antt
 
 pub returns-in-Ok : goal.returns-in-Ok
 returns-in-Ok c =
