@@ -18,7 +18,7 @@ use Rattle.record.specs.declared.option_add_on.OptionAddOn.{OptionAddOn}
 use Rattle.record.specs.declared.curves.Curve.{Curve}
 
 -- a whole body of so many bytes, whose first field, the currency, has been read
-pub record Body (bytes currency : ℕ) (body : List ℕ) : Type 0 where
+pub record IsBody (bytes currency : ℕ) (body : List ℕ) : Type 0 where
   pub long : length body ≡ bytes
   pub first : currency_at currencies body 0 ≡ accepted currency
 

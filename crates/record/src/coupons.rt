@@ -3,8 +3,9 @@ ghost use Rattle.std.specs.Prelude.{◌≡◌};
 ghost use Rattle.paper.specs.Refusals.{checked_as};
 ghost use Rattle.paper.specs.Records.{flows, currencies};
 ghost use Rattle.paper.specs.Decode.{decode_coupons};
-ghost use Rattle.record.specs.Answers.{Body, coupons_of};
+ghost use Rattle.record.specs.Answers.{coupons_of};
 
+use crate::body::Body;
 use fields::amounts::amount_at;
 use fields::{count_at, period_at, side_at};
 use paper::Fault;
@@ -20,17 +21,16 @@ pub struct Coupons {
     pub principal: Thousands,
 }
 
-pub fn decode_coupons(currency: u32, body: &[u8]) -> Result<Coupons, Fault>
-    requires { Body 13 currency body.now }
-    ensures { checked_as (λ s. flows s.currency (coupons_of s)) result ≡ decode_coupons currencies body.now }
+pub fn decode_coupons(body: Body<'_, 13>) -> Result<Coupons, Fault>
+    ensures { checked_as (λ s. flows s.currency (coupons_of s)) result ≡ decode_coupons currencies body.entry.bytes.now }
 {
-    let side = side_at(body, 1)?;
-    let period = period_at(body, 2)?;
-    let count = count_at(0, period, body, 3)?;
-    let coupon = amount_at(body, 5)?;
-    let principal = amount_at(body, 9)?;
+    let side = side_at(body.bytes, 1)?;
+    let period = period_at(body.bytes, 2)?;
+    let count = count_at(0, period, body.bytes, 3)?;
+    let coupon = amount_at(body.bytes, 5)?;
+    let principal = amount_at(body.bytes, 9)?;
     Ok(Coupons {
-        currency,
+        currency: body.currency,
         side,
         period,
         count,

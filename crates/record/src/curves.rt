@@ -7,8 +7,9 @@ ghost use Rattle.paper.specs.Records.{currencies};
 ghost use Rattle.paper.specs.Decode.{drawn, decode_curve, decode_listed_curve};
 ghost use Rattle.paper.specs.Sound.{Ranged, Listed};
 ghost use Rattle.curve.specs.Shocked.{curve_of, Sized};
-ghost use Rattle.record.specs.Answers.{Body, curve_record, drawn_of};
+ghost use Rattle.record.specs.Answers.{curve_record, drawn_of};
 
+use crate::body::Body;
 use curve::first_out_of_range;
 use fields::rates::rates_at;
 use fields::{record_fault, shock_at};
@@ -37,36 +38,34 @@ fn drawn(currency: u32, shocks: Shocks, rates: &[i64], from: usize) -> Result<Cu
 }
 
 // Kind 8: parallel, short and long shock (2 each) after the rates. 12 where the currency has a curve already.
-pub fn decode_curve(currency: u32, curved: bool, body: &[u8]) -> Result<Curve, Fault>
-    requires { Body 83 currency body.now }
-    ensures { checked_as (curve_record body.now 1) result ≡ decode_curve currencies (λ _. curved) body.now }
+pub fn decode_curve(curved: bool, body: Body<'_, 83>) -> Result<Curve, Fault>
+    ensures { checked_as (curve_record body.entry.bytes.now 1) result ≡ decode_curve currencies (λ _. curved) body.entry.bytes.now }
 {
     if curved {
         return Err(record_fault(Refusal::SecondCurve));
     }
     let mut rates = [0i64; BUCKETS];
-    rates_at(body, 1, &mut rates)?;
-    let parallel = shock_at(body, 77)?;
-    let short = shock_at(body, 79)?;
-    let long = shock_at(body, 81)?;
+    rates_at(body.bytes, 1, &mut rates)?;
+    let parallel = shock_at(body.bytes, 77)?;
+    let short = shock_at(body.bytes, 79)?;
+    let long = shock_at(body.bytes, 81)?;
     let shocks = Shocks {
         parallel,
         short,
         long,
     };
-    drawn(currency, shocks, &rates, 1)
+    drawn(body.currency, shocks, &rates, 1)
 }
 
 // Kind 10: edition (1) and code (3) before the rates. 12 likewise.
-pub fn decode_listed_curve(currency: u32, curved: bool, body: &[u8]) -> Result<Curve, Fault>
-    requires { Body 81 currency body.now }
-    ensures { checked_as (curve_record body.now 5) result ≡ decode_listed_curve currencies (λ _. curved) body.now }
+pub fn decode_listed_curve(curved: bool, body: Body<'_, 81>) -> Result<Curve, Fault>
+    ensures { checked_as (curve_record body.entry.bytes.now 5) result ≡ decode_listed_curve currencies (λ _. curved) body.entry.bytes.now }
 {
     if curved {
         return Err(record_fault(Refusal::SecondCurve));
     }
-    let shocks = listed_at(body, 1)?;
+    let shocks = listed_at(body.bytes, 1)?;
     let mut rates = [0i64; BUCKETS];
-    rates_at(body, 5, &mut rates)?;
-    drawn(currency, shocks, &rates, 5)
+    rates_at(body.bytes, 5, &mut rates)?;
+    drawn(body.currency, shocks, &rates, 5)
 }

@@ -4,8 +4,9 @@ ghost use Rattle.std.specs.Prelude.{◌≡◌};
 ghost use Rattle.paper.specs.Refusals.{checked_as};
 ghost use Rattle.paper.specs.Records.{flows, currencies};
 ghost use Rattle.paper.specs.Decode.{decode_deposit};
-ghost use Rattle.record.specs.Answers.{Body, deposit_of};
+ghost use Rattle.record.specs.Answers.{deposit_of};
 
+use crate::body::Body;
 use fields::amounts::{amount_at, amounts_at};
 use fields::{category_at, record_fault};
 use paper::{Fault, Refusal};
@@ -19,21 +20,20 @@ pub struct Deposit {
     pub total: Thousands,
 }
 
-pub fn decode_deposit(currency: u32, body: &[u8]) -> Result<Deposit, Fault>
-    requires { Body 82 currency body.now }
-    ensures { checked_as (λ s. flows s.currency (deposit_of body.now s)) result ≡ decode_deposit currencies body.now }
+pub fn decode_deposit(body: Body<'_, 82>) -> Result<Deposit, Fault>
+    ensures { checked_as (λ s. flows s.currency (deposit_of body.entry.bytes.now s)) result ≡ decode_deposit currencies body.entry.bytes.now }
 {
-    let category = category_at(body, 1)?;
-    let total = amount_at(body, 2)?;
-    let core = amounts_at(body, 6)?;
+    let category = category_at(body.bytes, 1)?;
+    let total = amount_at(body.bytes, 2)?;
+    let core = amounts_at(body.bytes, 6)?;
     if above_cap(category, total, core) {
         return Err(record_fault(Refusal::CoreAboveCap));
     }
-    if too_long(category, core, weighed_core(body)) {
+    if too_long(category, core, weighed_core(body.bytes)) {
         return Err(record_fault(Refusal::CoreTooLong));
     }
     Ok(Deposit {
-        currency,
+        currency: body.currency,
         category,
         total,
     })

@@ -3,8 +3,9 @@ ghost use Rattle.std.specs.Prelude.{◌≡◌};
 ghost use Rattle.paper.specs.Refusals.{checked_as};
 ghost use Rattle.paper.specs.Records.{flows, currencies};
 ghost use Rattle.paper.specs.Decode.{decode_floating};
-ghost use Rattle.record.specs.Answers.{Body, floating_of};
+ghost use Rattle.record.specs.Answers.{floating_of};
 
+use crate::body::Body;
 use fields::amounts::amount_at;
 use fields::{days_at, months_at, side_at};
 use paper::Fault;
@@ -20,17 +21,16 @@ pub struct Floating {
     pub coupon: Thousands,
 }
 
-pub fn decode_floating(currency: u32, body: &[u8]) -> Result<Floating, Fault>
-    requires { Body 13 currency body.now }
-    ensures { checked_as (λ s. flows s.currency (floating_of s)) result ≡ decode_floating currencies body.now }
+pub fn decode_floating(body: Body<'_, 13>) -> Result<Floating, Fault>
+    ensures { checked_as (λ s. flows s.currency (floating_of s)) result ≡ decode_floating currencies body.entry.bytes.now }
 {
-    let side = side_at(body, 1)?;
-    let months = months_at(body, 2)?;
-    let days = days_at(body, 4)?;
-    let principal = amount_at(body, 5)?;
-    let coupon = amount_at(body, 9)?;
+    let side = side_at(body.bytes, 1)?;
+    let months = months_at(body.bytes, 2)?;
+    let days = days_at(body.bytes, 4)?;
+    let principal = amount_at(body.bytes, 5)?;
+    let coupon = amount_at(body.bytes, 9)?;
     Ok(Floating {
-        currency,
+        currency: body.currency,
         side,
         months,
         days,

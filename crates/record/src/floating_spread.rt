@@ -3,8 +3,9 @@ ghost use Rattle.std.specs.Prelude.{◌≡◌};
 ghost use Rattle.paper.specs.Refusals.{checked_as};
 ghost use Rattle.paper.specs.Records.{flows, currencies};
 ghost use Rattle.paper.specs.Decode.{decode_floating_spread};
-ghost use Rattle.record.specs.Answers.{Body, floating_spread_of};
+ghost use Rattle.record.specs.Answers.{floating_spread_of};
 
+use crate::body::Body;
 use crate::floating::{Floating, decode_floating};
 use fields::amounts::amount_at;
 use fields::{count_at, period_at};
@@ -20,14 +21,17 @@ pub struct FloatingSpread {
 }
 
 // The last month is counted from the reset.
-pub fn decode_floating_spread(currency: u32, body: &[u8]) -> Result<FloatingSpread, Fault>
-    requires { Body 20 currency body.now }
-    ensures { checked_as (λ s. flows s.floating.currency (floating_spread_of s)) result ≡ decode_floating_spread currencies body.now }
+pub fn decode_floating_spread(body: Body<'_, 20>) -> Result<FloatingSpread, Fault>
+    ensures { checked_as (λ s. flows s.floating.currency (floating_spread_of s)) result ≡ decode_floating_spread currencies body.entry.bytes.now }
 {
-    let floating = decode_floating(currency, &body[..13])?;
-    let period = period_at(body, 13)?;
-    let count = count_at(floating.months, period, body, 14)?;
-    let spread = amount_at(body, 16)?;
+    let reset = Body {
+        bytes: &body.bytes[..13],
+        currency: body.currency,
+    };
+    let floating = decode_floating(reset)?;
+    let period = period_at(body.bytes, 13)?;
+    let count = count_at(floating.months, period, body.bytes, 14)?;
+    let spread = amount_at(body.bytes, 16)?;
     Ok(FloatingSpread {
         floating,
         period,

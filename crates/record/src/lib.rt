@@ -1,6 +1,7 @@
 // The body of each kind, read field by field as the paper lays it out: the first refusal leaves at once (01, "Records" and "Turned down").
 #![tactic(auto)]
 
+pub mod body;
 pub mod coupons;
 pub mod curves;
 pub mod deposit;

@@ -4,8 +4,9 @@ ghost use Rattle.std.specs.Prelude.{◌≡◌};
 ghost use Rattle.paper.specs.Refusals.{checked_as};
 ghost use Rattle.paper.specs.Records.{flows, currencies};
 ghost use Rattle.paper.specs.Decode.{decode_loan};
-ghost use Rattle.record.specs.Answers.{Body, loan_of};
+ghost use Rattle.record.specs.Answers.{loan_of};
 
+use crate::body::Body;
 use fields::amounts::amounts_at;
 use fields::{record_fault, share_at};
 use paper::{Fault, Refusal};
@@ -17,14 +18,13 @@ pub struct Loan {
     pub share: u32,
 }
 
-pub fn decode_loan(currency: u32, body: &[u8]) -> Result<Loan, Fault>
-    requires { Body 155 currency body.now }
-    ensures { checked_as (λ s. flows s.currency (loan_of body.now s)) result ≡ decode_loan currencies body.now }
+pub fn decode_loan(body: Body<'_, 155>) -> Result<Loan, Fault>
+    ensures { checked_as (λ s. flows s.currency (loan_of body.entry.bytes.now s)) result ≡ decode_loan currencies body.entry.bytes.now }
 {
-    let share = share_at(body, 1)?;
-    let principal = amounts_at(body, 3)?;
-    let interest = amounts_at(body, 79)?;
-    if let Some(bare) = interest_alone(body, principal) {
+    let share = share_at(body.bytes, 1)?;
+    let principal = amounts_at(body.bytes, 3)?;
+    let interest = amounts_at(body.bytes, 79)?;
+    if let Some(bare) = interest_alone(body.bytes, principal) {
         return Err(Fault {
             cause: Refusal::InterestAlone,
             place: 80 + 4 * bare,
@@ -33,5 +33,8 @@ pub fn decode_loan(currency: u32, body: &[u8]) -> Result<Loan, Fault>
     if 1000000000 < principal.0 + interest.0 {
         return Err(record_fault(Refusal::OverLimit));
     }
-    Ok(Loan { currency, share })
+    Ok(Loan {
+        currency: body.currency,
+        share,
+    })
 }

@@ -3,8 +3,9 @@ ghost use Rattle.std.specs.Prelude.{◌≡◌};
 ghost use Rattle.paper.specs.Refusals.{checked_as};
 ghost use Rattle.paper.specs.Records.{option, currencies};
 ghost use Rattle.paper.specs.Decode.{decode_option};
-ghost use Rattle.record.specs.Answers.{Body, values_of};
+ghost use Rattle.record.specs.Answers.{values_of};
 
+use crate::body::Body;
 use fields::options::option_at;
 use fields::side_at;
 use paper::Fault;
@@ -22,19 +23,18 @@ pub struct OptionAddOn {
     pub short_down: SignedThousands,
 }
 
-pub fn decode_option(currency: u32, body: &[u8]) -> Result<OptionAddOn, Fault>
-    requires { Body 26 currency body.now }
-    ensures { checked_as (λ s. option s.currency s.side (values_of s)) result ≡ decode_option currencies body.now }
+pub fn decode_option(body: Body<'_, 26>) -> Result<OptionAddOn, Fault>
+    ensures { checked_as (λ s. option s.currency s.side (values_of s)) result ≡ decode_option currencies body.entry.bytes.now }
 {
-    let side = side_at(body, 1)?;
-    let up = option_at(body, 2)?;
-    let down = option_at(body, 6)?;
-    let steepener = option_at(body, 10)?;
-    let flattener = option_at(body, 14)?;
-    let short_up = option_at(body, 18)?;
-    let short_down = option_at(body, 22)?;
+    let side = side_at(body.bytes, 1)?;
+    let up = option_at(body.bytes, 2)?;
+    let down = option_at(body.bytes, 6)?;
+    let steepener = option_at(body.bytes, 10)?;
+    let flattener = option_at(body.bytes, 14)?;
+    let short_up = option_at(body.bytes, 18)?;
+    let short_down = option_at(body.bytes, 22)?;
     Ok(OptionAddOn {
-        currency,
+        currency: body.currency,
         side,
         up,
         down,

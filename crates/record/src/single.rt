@@ -3,8 +3,9 @@ ghost use Rattle.std.specs.Prelude.{◌≡◌};
 ghost use Rattle.paper.specs.Refusals.{checked_as};
 ghost use Rattle.paper.specs.Records.{flows, currencies};
 ghost use Rattle.paper.specs.Decode.{decode_single};
-ghost use Rattle.record.specs.Answers.{Body, single_of};
+ghost use Rattle.record.specs.Answers.{single_of};
 
+use crate::body::Body;
 use fields::amounts::amount_at;
 use fields::{days_at, months_at, side_at};
 use paper::Fault;
@@ -19,16 +20,15 @@ pub struct Single {
     pub amount: Thousands,
 }
 
-pub fn decode_single(currency: u32, body: &[u8]) -> Result<Single, Fault>
-    requires { Body 9 currency body.now }
-    ensures { checked_as (λ s. flows s.currency (single_of s)) result ≡ decode_single currencies body.now }
+pub fn decode_single(body: Body<'_, 9>) -> Result<Single, Fault>
+    ensures { checked_as (λ s. flows s.currency (single_of s)) result ≡ decode_single currencies body.entry.bytes.now }
 {
-    let side = side_at(body, 1)?;
-    let months = months_at(body, 2)?;
-    let days = days_at(body, 4)?;
-    let amount = amount_at(body, 5)?;
+    let side = side_at(body.bytes, 1)?;
+    let months = months_at(body.bytes, 2)?;
+    let days = days_at(body.bytes, 4)?;
+    let amount = amount_at(body.bytes, 5)?;
     Ok(Single {
-        currency,
+        currency: body.currency,
         side,
         months,
         days,

@@ -17,34 +17,34 @@ use Rattle.record.proofs.CurveLaws.{drawn-read}
 use Rattle.record.proofs.curves.decode_curve.Goals as goal
 use Rattle.record.proofs.curves.decode_curve.Goals.{In_ok-rates_at, In_ok-long}
 
-rated : (c : In_ok-rates_at) → Rated c.args.body.now 1 c.rates_at.new.rates
+rated : (c : In_ok-rates_at) → Rated c.args.body.bytes.now 1 c.rates_at.new.rates
 rated c = rates-all _ _ (replicate 19 (pos 0)) refl (c.in_ok-rates_at.ensures.value, c.rates_at.ensures.rates_after)
 
 pub returns-then-curved : goal.returns-then-curved
 unfolding decode_curve second_curve unless ◌>>=◌ ◌>>◌ checked_as
-returns-then-curved c = rw (c.record_fault.ensures, c.requires.first, c.if-curved.true)
+returns-then-curved c = rw (c.record_fault.ensures, c.args.body.known.first, c.if-curved.true)
 
 pub returns-in_err-rates_at : goal.returns-in_err-rates_at
 unfolding decode_curve second_curve unless ◌>>=◌ ◌>>◌ checked_as
-returns-in_err-rates_at c = rw (handed _ c.from_residual.ensures.1, c.requires.first, c.if-curved.false, bad no_value c.in_err-rates_at.ensures.value)
+returns-in_err-rates_at c = rw (handed _ c.from_residual.ensures.1, c.args.body.known.first, c.if-curved.false, bad no_value c.in_err-rates_at.ensures.value)
 
 pub returns-in_err-parallel : goal.returns-in_err-parallel
 unfolding decode_curve second_curve unless ◌>>=◌ ◌>>◌ checked_as
 returns-in_err-parallel c =
     let rates = rated (goal.at.returns-in_err-parallel c).In_ok-rates_at in
-    rw (handed _ c.from_residual-in_err-parallel.ensures.1, c.requires.first, c.if-curved.false, rates.list, bad as_it_is c.in_err-parallel.ensures)
+    rw (handed _ c.from_residual-in_err-parallel.ensures.1, c.args.body.known.first, c.if-curved.false, rates.list, bad as_it_is c.in_err-parallel.ensures)
 
 pub returns-in_err-short : goal.returns-in_err-short
 unfolding decode_curve second_curve unless ◌>>=◌ ◌>>◌ checked_as
 returns-in_err-short c =
     let rates = rated (goal.at.returns-in_err-short c).In_ok-rates_at in
-    rw (handed _ c.from_residual-in_err-short.ensures.1, c.requires.first, c.if-curved.false, rates.list, value c.in_ok-parallel.ensures, bad as_it_is c.in_err-short.ensures)
+    rw (handed _ c.from_residual-in_err-short.ensures.1, c.args.body.known.first, c.if-curved.false, rates.list, value c.in_ok-parallel.ensures, bad as_it_is c.in_err-short.ensures)
 
 pub returns-in_err-long : goal.returns-in_err-long
 unfolding decode_curve second_curve unless ◌>>=◌ ◌>>◌ checked_as
 returns-in_err-long c =
     let rates = rated (goal.at.returns-in_err-long c).In_ok-rates_at in
-    rw (handed _ c.from_residual-in_err-long.ensures.1, c.requires.first, c.if-curved.false, rates.list, value c.in_ok-parallel.ensures, value c.in_ok-short.ensures, bad as_it_is c.in_err-long.ensures)
+    rw (handed _ c.from_residual-in_err-long.ensures.1, c.args.body.known.first, c.if-curved.false, rates.list, value c.in_ok-parallel.ensures, value c.in_ok-short.ensures, bad as_it_is c.in_err-long.ensures)
 
 abbrev shocks : In_ok-long → Shocks
 shocks c = record { parallel = c.in_ok-parallel.parallel; short = c.in_ok-short.short; long = c.in_ok-long.long }
@@ -68,7 +68,7 @@ returns c =
     let rates = rated g.In_ok-rates_at in
     rw (
       drawn-read _ 1 _ (shocks g.In_ok-long) rates.holds c.drawn.ensures,
-      c.requires.first,
+      c.args.body.known.first,
       c.if-curved.false,
       rates.list,
       value c.in_ok-parallel.ensures,

@@ -16,7 +16,7 @@ use Rattle.record.proofs.CurveLaws.{drawn-read}
 use Rattle.record.proofs.curves.decode_listed_curve.Goals as goal
 use Rattle.record.proofs.curves.decode_listed_curve.Goals.{In_ok-shocks, In_ok-rates_at}
 
-rated : (c : In_ok-rates_at) → Rated c.args.body.now 5 c.rates_at.new.rates
+rated : (c : In_ok-rates_at) → Rated c.args.body.bytes.now 5 c.rates_at.new.rates
 rated c = rates-all _ _ (replicate 19 (pos 0)) refl (c.in_ok-rates_at.ensures.value, c.rates_at.ensures.rates_after)
 
 sized : (c : In_ok-shocks) → Sized c.in_ok-shocks.shocks
@@ -26,16 +26,16 @@ sized c =
 
 pub returns-then-curved : goal.returns-then-curved
 unfolding decode_listed_curve second_curve unless ◌>>=◌ ◌>>◌ checked_as
-returns-then-curved c = rw (c.record_fault.ensures, c.requires.first, c.if-curved.true)
+returns-then-curved c = rw (c.record_fault.ensures, c.args.body.known.first, c.if-curved.true)
 
 pub returns-in_err-shocks : goal.returns-in_err-shocks
 unfolding decode_listed_curve second_curve unless ◌>>=◌ ◌>>◌ checked_as
-returns-in_err-shocks c = rw (handed _ c.from_residual.ensures.1, c.requires.first, c.if-curved.false, bad as_it_is c.in_err-shocks.ensures)
+returns-in_err-shocks c = rw (handed _ c.from_residual.ensures.1, c.args.body.known.first, c.if-curved.false, bad as_it_is c.in_err-shocks.ensures)
 
 pub returns-in_err-rates_at : goal.returns-in_err-rates_at
 unfolding decode_listed_curve second_curve unless ◌>>=◌ ◌>>◌ checked_as
 returns-in_err-rates_at c =
-    rw (handed _ c.from_residual-in_err-rates_at.ensures.1, c.requires.first, c.if-curved.false, value c.in_ok-shocks.ensures, bad no_value c.in_err-rates_at.ensures.value)
+    rw (handed _ c.from_residual-in_err-rates_at.ensures.1, c.args.body.known.first, c.if-curved.false, value c.in_ok-shocks.ensures, bad no_value c.in_err-rates_at.ensures.value)
 
 pub drawn-requires : goal.drawn-requires
 drawn-requires c = record { listed = (rated (goal.at.drawn-requires c).In_ok-rates_at).ranged; sized = (sized (goal.at.drawn-requires c).In_ok-shocks, omega arith) }
@@ -44,4 +44,4 @@ pub returns : goal.returns
 unfolding decode_listed_curve second_curve unless ◌>>=◌ ◌>>◌
 returns c =
     let rates = rated (goal.at.returns c).In_ok-rates_at in
-    rw (drawn-read _ 5 _ c.in_ok-shocks.shocks rates.holds c.drawn.ensures, c.requires.first, c.if-curved.false, value c.in_ok-shocks.ensures, rates.list)
+    rw (drawn-read _ 5 _ c.in_ok-shocks.shocks rates.holds c.drawn.ensures, c.args.body.known.first, c.if-curved.false, value c.in_ok-shocks.ensures, rates.list)

@@ -2,7 +2,7 @@
 use Prim.Native.Nat.{ℕ}
 use mathlib.Core.Path.{ap}
 use native.Mathlib.Omega.{arith}
-use borrow.Author.Tests.{lt-ltb, le-ltb}
+use borrow.Author.Tests.{lt-ltb}
 use Rattle.std.specs.Prelude.{Err}
 use Rattle.paper.specs.declared.Refusal.TheVariants.{OutOfRange}
 use Rattle.paper.specs.Refusals.{◌>>◌, unless, fault}

@@ -18,7 +18,7 @@ use Rattle.record.proofs.deposit.decode_deposit.Goals as goal
 use Rattle.record.proofs.deposit.decode_deposit.Goals.{In_ok-core}
 
 -- the core, once it is read, and the two tests of it
-core : (c : In_ok-core) → Amounting c.args.body.now 6 c.in_ok-core.core.0
+core : (c : In_ok-core) → Amounting c.args.body.bytes.now 6 c.in_ok-core.core.0
 core c = amounts-summed _ 6 c.in_ok-core.ensures
 
 cap-tested : {body : List ℕ} {s : ℕ} (category total : ℕ) {r : Bool} → Amounting body 6 s → r ≡ (core_cap category * total below 100 * s)
@@ -33,20 +33,20 @@ average-tested category a m e = ap₂ (λ (x y : ℕ). average_cap category * x 
 
 pub returns-in_err-category : goal.returns-in_err-category
 unfolding decode_deposit ◌>>=◌ checked_as
-returns-in_err-category c = rw (handed _ c.from_residual.ensures.1, c.requires.first, bad as_it_is c.in_err-category.ensures)
+returns-in_err-category c = rw (handed _ c.from_residual.ensures.1, c.args.body.known.first, bad as_it_is c.in_err-category.ensures)
 
 pub returns-in_err-total : goal.returns-in_err-total
 unfolding decode_deposit ◌>>=◌ checked_as
-returns-in_err-total c = rw (handed _ c.from_residual-in_err-total.ensures.1, c.requires.first, value c.in_ok-category.ensures, bad thousands c.in_err-total.ensures)
+returns-in_err-total c = rw (handed _ c.from_residual-in_err-total.ensures.1, c.args.body.known.first, value c.in_ok-category.ensures, bad thousands c.in_err-total.ensures)
 
 pub returns-in_err-core : goal.returns-in_err-core
 unfolding decode_deposit ◌>>=◌ checked_as
 returns-in_err-core c =
-    rw (handed _ c.from_residual-in_err-core.ensures.1, c.requires.first, value c.in_ok-category.ensures, amount-value c.in_ok-total.ensures, bad total c.in_err-core.ensures)
+    rw (handed _ c.from_residual-in_err-core.ensures.1, c.args.body.known.first, value c.in_ok-category.ensures, amount-value c.in_ok-total.ensures, bad total c.in_err-core.ensures)
 
 pub above_cap-requires : goal.above_cap-requires
 above_cap-requires c =
-    let limit = known_of (amount-known {bytes = 82} c.args.body.now 2 (omega arith)) c.in_ok-total.total.0 (amount-value c.in_ok-total.ensures) in
+    let limit = known_of (amount-known {bytes = 82} c.args.body.bytes.now 2 (omega arith)) c.in_ok-total.total.0 (amount-value c.in_ok-total.ensures) in
     (limit.to, omega (arith, (core (goal.at.above_cap-requires c).In_ok-core).small))
 
 pub returns-then-above_cap : goal.returns-then-above_cap
@@ -55,7 +55,7 @@ returns-then-above_cap c =
     let a = core (goal.at.returns-then-above_cap c).In_ok-core in
     rw (
       c.record_fault.ensures,
-      c.requires.first,
+      c.args.body.known.first,
       value c.in_ok-category.ensures,
       amount-value c.in_ok-total.ensures,
       a.list,
@@ -72,7 +72,7 @@ returns-then-too_long c =
     let a = core (goal.at.returns-then-too_long c).In_ok-core in
     rw (
       c.record_fault-then-too_long.ensures,
-      c.requires.first,
+      c.args.body.known.first,
       value c.in_ok-category.ensures,
       amount-value c.in_ok-total.ensures,
       a.list,
@@ -87,7 +87,7 @@ unfolding decode_deposit unless ◌>>=◌ ◌>>◌ checked_as
 returns c =
     let a = core (goal.at.returns c).In_ok-core in
     rw (
-      c.requires.first,
+      c.args.body.known.first,
       value c.in_ok-category.ensures,
       amount-value c.in_ok-total.ensures,
       a.list,

@@ -7,24 +7,24 @@ use Rattle.record.proofs.floating.decode_floating.Goals as goal
 
 pub returns-in_err-side : goal.returns-in_err-side
 unfolding decode_floating ◌>>=◌ checked_as
-returns-in_err-side c = rw (handed _ c.from_residual.ensures.1, c.requires.first, bad as_it_is c.in_err-side.ensures)
+returns-in_err-side c = rw (handed _ c.from_residual.ensures.1, c.args.body.known.first, bad as_it_is c.in_err-side.ensures)
 
 pub returns-in_err-months : goal.returns-in_err-months
 unfolding decode_floating ◌>>=◌ checked_as
-returns-in_err-months c = rw (handed _ c.from_residual-in_err-months.ensures.1, c.requires.first, value c.in_ok-side.ensures, bad as_it_is c.in_err-months.ensures)
+returns-in_err-months c = rw (handed _ c.from_residual-in_err-months.ensures.1, c.args.body.known.first, value c.in_ok-side.ensures, bad as_it_is c.in_err-months.ensures)
 
 pub returns-in_err-days : goal.returns-in_err-days
 unfolding decode_floating ◌>>=◌ checked_as
-returns-in_err-days c = rw (handed _ c.from_residual-in_err-days.ensures.1, c.requires.first, value c.in_ok-side.ensures, value c.in_ok-months.ensures, bad as_it_is c.in_err-days.ensures)
+returns-in_err-days c = rw (handed _ c.from_residual-in_err-days.ensures.1, c.args.body.known.first, value c.in_ok-side.ensures, value c.in_ok-months.ensures, bad as_it_is c.in_err-days.ensures)
 
 pub returns-in_err-principal : goal.returns-in_err-principal
 unfolding decode_floating ◌>>=◌ checked_as
-returns-in_err-principal c = rw (handed _ c.from_residual-in_err-principal.ensures.1, c.requires.first, value c.in_ok-side.ensures, value c.in_ok-months.ensures, value c.in_ok-days.ensures, bad thousands c.in_err-principal.ensures)
+returns-in_err-principal c = rw (handed _ c.from_residual-in_err-principal.ensures.1, c.args.body.known.first, value c.in_ok-side.ensures, value c.in_ok-months.ensures, value c.in_ok-days.ensures, bad thousands c.in_err-principal.ensures)
 
 pub returns-in_err-coupon : goal.returns-in_err-coupon
 unfolding decode_floating ◌>>=◌ checked_as
-returns-in_err-coupon c = rw (handed _ c.from_residual-in_err-coupon.ensures.1, c.requires.first, value c.in_ok-side.ensures, value c.in_ok-months.ensures, value c.in_ok-days.ensures, amount-value c.in_ok-principal.ensures, bad thousands c.in_err-coupon.ensures)
+returns-in_err-coupon c = rw (handed _ c.from_residual-in_err-coupon.ensures.1, c.args.body.known.first, value c.in_ok-side.ensures, value c.in_ok-months.ensures, value c.in_ok-days.ensures, amount-value c.in_ok-principal.ensures, bad thousands c.in_err-coupon.ensures)
 
 pub returns : goal.returns
 unfolding decode_floating ◌>>=◌ checked_as
-returns c = rw (c.requires.first, value c.in_ok-side.ensures, value c.in_ok-months.ensures, value c.in_ok-days.ensures, amount-value c.in_ok-principal.ensures, amount-value c.in_ok-coupon.ensures)
+returns c = rw (c.args.body.known.first, value c.in_ok-side.ensures, value c.in_ok-months.ensures, value c.in_ok-days.ensures, amount-value c.in_ok-principal.ensures, amount-value c.in_ok-coupon.ensures)

@@ -16,7 +16,7 @@ use Rattle.std.specs.Prelude.{Ok, Err}
 use Rattle.fields.specs.Answers.{as_it_is, thousands}
 use Rattle.fields.proofs.Reading.{handed, value, bad, amount-value}
 use Rattle.record.specs.declared.floating.Floating.{Floating}
-use Rattle.record.specs.Answers.{Body, floating_of}
+use Rattle.record.specs.Answers.{floating_of}
 use Rattle.record.proofs.floating_spread.decode_floating_spread.Goals as goal
 
 -- ---- kind 3's decoder is lent the first 13 bytes
@@ -46,9 +46,6 @@ module _ (body : List ℕ) where
         same_byte 11 (omega arith),
         same_byte 12 (omega arith),
       )
-
-  head-body : {c : ℕ} → Body 20 c body → Body 13 c (take 13 body)
-  head-body h = record { long = length-take 13 body ∙ omega (arith, h.long); first = rw (same_byte 0 (omega arith)) h.first }
 
   -- ---- a record of kind 9 is refused where kind 3's fields are, and goes on where they are good
 
@@ -85,13 +82,10 @@ module _ (body : List ℕ) where
   unfolding checked_as
   not_good f told = follows.refuses _ _ (sym head ∙ sym told)
 
-pub slice_bounds-decode_floating-end : goal.slice_bounds-decode_floating-end
-slice_bounds-decode_floating-end c =
-    let body = c.args.body.now in
-    omega (arith, length-take 13 body, c.requires.long)
-
-pub decode_floating-requires : goal.decode_floating-requires
-decode_floating-requires c = head-body c.args.body.now c.requires
+pub slice_bounds-reset-end : goal.slice_bounds-reset-end
+slice_bounds-reset-end c =
+    let body = c.args.body in
+    omega (arith, length-take 13 body.bytes.now, body.known.long)
 
 pub returns-in_err-floating : goal.returns-in_err-floating
 unfolding checked_as

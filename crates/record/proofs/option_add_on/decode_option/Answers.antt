@@ -8,32 +8,32 @@ use Rattle.record.proofs.option_add_on.decode_option.Goals as goal
 
 pub returns-in_err-side : goal.returns-in_err-side
 unfolding decode_option each ◌>>=◌ checked_as
-returns-in_err-side c = rw (handed _ c.from_residual.ensures.1, c.requires.first, bad as_it_is c.in_err-side.ensures)
+returns-in_err-side c = rw (handed _ c.from_residual.ensures.1, c.args.body.known.first, bad as_it_is c.in_err-side.ensures)
 
 pub returns-in_err-up : goal.returns-in_err-up
 unfolding decode_option each ◌>>=◌ checked_as
-returns-in_err-up c = rw (handed _ c.from_residual-in_err-up.ensures.1, c.requires.first, value c.in_ok-side.ensures, bad signed_thousands c.in_err-up.ensures)
+returns-in_err-up c = rw (handed _ c.from_residual-in_err-up.ensures.1, c.args.body.known.first, value c.in_ok-side.ensures, bad signed_thousands c.in_err-up.ensures)
 
 pub returns-in_err-down : goal.returns-in_err-down
 unfolding decode_option each ◌>>=◌ checked_as
-returns-in_err-down c = rw (handed _ c.from_residual-in_err-down.ensures.1, c.requires.first, value c.in_ok-side.ensures, option-value c.in_ok-up.ensures, bad signed_thousands c.in_err-down.ensures)
+returns-in_err-down c = rw (handed _ c.from_residual-in_err-down.ensures.1, c.args.body.known.first, value c.in_ok-side.ensures, option-value c.in_ok-up.ensures, bad signed_thousands c.in_err-down.ensures)
 
 pub returns-in_err-steepener : goal.returns-in_err-steepener
 unfolding decode_option each ◌>>=◌ checked_as
-returns-in_err-steepener c = rw (handed _ c.from_residual-in_err-steepener.ensures.1, c.requires.first, value c.in_ok-side.ensures, option-value c.in_ok-up.ensures, option-value c.in_ok-down.ensures, bad signed_thousands c.in_err-steepener.ensures)
+returns-in_err-steepener c = rw (handed _ c.from_residual-in_err-steepener.ensures.1, c.args.body.known.first, value c.in_ok-side.ensures, option-value c.in_ok-up.ensures, option-value c.in_ok-down.ensures, bad signed_thousands c.in_err-steepener.ensures)
 
 pub returns-in_err-flattener : goal.returns-in_err-flattener
 unfolding decode_option each ◌>>=◌ checked_as
-returns-in_err-flattener c = rw (handed _ c.from_residual-in_err-flattener.ensures.1, c.requires.first, value c.in_ok-side.ensures, option-value c.in_ok-up.ensures, option-value c.in_ok-down.ensures, option-value c.in_ok-steepener.ensures, bad signed_thousands c.in_err-flattener.ensures)
+returns-in_err-flattener c = rw (handed _ c.from_residual-in_err-flattener.ensures.1, c.args.body.known.first, value c.in_ok-side.ensures, option-value c.in_ok-up.ensures, option-value c.in_ok-down.ensures, option-value c.in_ok-steepener.ensures, bad signed_thousands c.in_err-flattener.ensures)
 
 pub returns-in_err-short_up : goal.returns-in_err-short_up
 unfolding decode_option each ◌>>=◌ checked_as
-returns-in_err-short_up c = rw (handed _ c.from_residual-in_err-short_up.ensures.1, c.requires.first, value c.in_ok-side.ensures, option-value c.in_ok-up.ensures, option-value c.in_ok-down.ensures, option-value c.in_ok-steepener.ensures, option-value c.in_ok-flattener.ensures, bad signed_thousands c.in_err-short_up.ensures)
+returns-in_err-short_up c = rw (handed _ c.from_residual-in_err-short_up.ensures.1, c.args.body.known.first, value c.in_ok-side.ensures, option-value c.in_ok-up.ensures, option-value c.in_ok-down.ensures, option-value c.in_ok-steepener.ensures, option-value c.in_ok-flattener.ensures, bad signed_thousands c.in_err-short_up.ensures)
 
 pub returns-in_err-short_down : goal.returns-in_err-short_down
 unfolding decode_option each ◌>>=◌ checked_as
-returns-in_err-short_down c = rw (handed _ c.from_residual-in_err-short_down.ensures.1, c.requires.first, value c.in_ok-side.ensures, option-value c.in_ok-up.ensures, option-value c.in_ok-down.ensures, option-value c.in_ok-steepener.ensures, option-value c.in_ok-flattener.ensures, option-value c.in_ok-short_up.ensures, bad signed_thousands c.in_err-short_down.ensures)
+returns-in_err-short_down c = rw (handed _ c.from_residual-in_err-short_down.ensures.1, c.args.body.known.first, value c.in_ok-side.ensures, option-value c.in_ok-up.ensures, option-value c.in_ok-down.ensures, option-value c.in_ok-steepener.ensures, option-value c.in_ok-flattener.ensures, option-value c.in_ok-short_up.ensures, bad signed_thousands c.in_err-short_down.ensures)
 
 pub returns : goal.returns
 unfolding decode_option each ◌>>=◌ checked_as
-returns c = rw (c.requires.first, value c.in_ok-side.ensures, option-value c.in_ok-up.ensures, option-value c.in_ok-down.ensures, option-value c.in_ok-steepener.ensures, option-value c.in_ok-flattener.ensures, option-value c.in_ok-short_up.ensures, option-value c.in_ok-short_down.ensures)
+returns c = rw (c.args.body.known.first, value c.in_ok-side.ensures, option-value c.in_ok-up.ensures, option-value c.in_ok-down.ensures, option-value c.in_ok-steepener.ensures, option-value c.in_ok-flattener.ensures, option-value c.in_ok-short_up.ensures, option-value c.in_ok-short_down.ensures)
