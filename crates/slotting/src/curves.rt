@@ -4,13 +4,14 @@ ghost use Rattle.paper.specs.Ledger.{section_size};
 ghost use Rattle.paper.specs.Records.{currencies};
 ghost use Rattle.paper.specs.Decode.{decode_curve, decode_listed_curve};
 ghost use Rattle.paper.specs.Refusals.{checked_as};
-ghost use Rattle.record.specs.Answers.{Body, curve_record};
+ghost use Rattle.record.specs.Answers.{curve_record};
 ghost use Rattle.posting.specs.Answers.{CurveTaken};
 ghost use Rattle.slotting.specs.Parts.{RateParts, Enterable};
 
 use curve::fill_section;
 use fields::rates::rates_at;
 use paper::{BUCKETS, Fault};
+use record::body::Body;
 use record::curves::{Curve, decode_curve, decode_listed_curve};
 
 // The rates begin at `from` in the body.
@@ -33,23 +34,16 @@ fn enter_curve(
     Ok(())
 }
 
-pub fn take_curve(currency: u32, curved: bool, body: &[u8], rates: &mut [i32]) -> Result<(), Fault>
-    requires body { Body 83 currency body.now }
+pub fn take_curve(curved: bool, body: Body<'_, 83>, rates: &mut [i32]) -> Result<(), Fault>
     requires rate_parts { RateParts curved rates.old }
-    ensures { CurveTaken (decode_curve currencies (λ _. curved) body.now) rates.old result rates.new }
+    ensures { CurveTaken (decode_curve currencies (λ _. curved) body.entry.bytes.now) rates.old result rates.new }
 {
-    enter_curve(decode_curve(currency, curved, body), body, 1, rates)
+    enter_curve(decode_curve(curved, body), body.bytes, 1, rates)
 }
 
-pub fn take_listed_curve(
-    currency: u32,
-    curved: bool,
-    body: &[u8],
-    rates: &mut [i32],
-) -> Result<(), Fault>
-    requires body { Body 81 currency body.now }
+pub fn take_listed_curve(curved: bool, body: Body<'_, 81>, rates: &mut [i32]) -> Result<(), Fault>
     requires rate_parts { RateParts curved rates.old }
-    ensures { CurveTaken (decode_listed_curve currencies (λ _. curved) body.now) rates.old result rates.new }
+    ensures { CurveTaken (decode_listed_curve currencies (λ _. curved) body.entry.bytes.now) rates.old result rates.new }
 {
-    enter_curve(decode_listed_curve(currency, curved, body), body, 5, rates)
+    enter_curve(decode_listed_curve(curved, body), body.bytes, 5, rates)
 }

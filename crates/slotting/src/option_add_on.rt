@@ -6,7 +6,6 @@ ghost use Rattle.paper.specs.Refusals.{accepted};
 ghost use Rattle.paper.specs.Flow.{sided};
 ghost use Rattle.paper.specs.Decode.{decode_option};
 ghost use Rattle.arrays.specs.Slots.{plus_ℤ};
-ghost use Rattle.record.specs.Answers.{Body};
 ghost use Rattle.posting.specs.Parts.{AtMostℤ};
 ghost use Rattle.posting.specs.Answers.{TakesOption};
 ghost use Rattle.slotting.specs.Parts.{OptionParts};
@@ -14,6 +13,7 @@ ghost use Rattle.slotting.specs.Parts.{OptionParts};
 use paper::{Fault, SHOCKED};
 use posting::cells::sided;
 use posting::room::admit;
+use record::body::Body;
 use record::option_add_on::decode_option;
 use scales::SignedThousands;
 
@@ -44,17 +44,11 @@ fn slot_values(
     Ok(())
 }
 
-pub fn take_option(
-    currency: u32,
-    body: &[u8],
-    sizes: &mut [u64],
-    addons: &mut [i64],
-) -> Result<(), Fault>
-    requires body { Body 26 currency body.now }
+pub fn take_option(body: Body<'_, 26>, sizes: &mut [u64], addons: &mut [i64]) -> Result<(), Fault>
     requires option_parts { OptionParts sizes.old addons.old }
-    ensures { TakesOption (decode_option currencies body.now) sizes addons result }
+    ensures { TakesOption (decode_option currencies body.entry.bytes.now) sizes addons result }
 {
-    let option = decode_option(currency, body)?;
+    let option = decode_option(body)?;
     let values = [
         option.up.0,
         option.down.0,

@@ -14,7 +14,7 @@ use Rattle.posting.proofs.Loops.{row-long, row_small}
 use Rattle.portfolio.proofs.RecordFlows.{core-small}
 use mathlib.Core.Bool.{false}
 use mathlib.Core.List.{List}
-use mathlib.Core.Path.{◌≡◌, refl, sym, ap, ◌∙◌}
+use mathlib.Core.Path.{◌≡◌, refl, sym}
 use native.Mathlib.Omega.{arith}
 use Rattle.paper.specs.Refusals.{accepted, checked_as}
 use Rattle.paper.specs.Records.{flows, currencies}
@@ -30,7 +30,7 @@ use Rattle.portfolio.proofs.deposit.take_deposit.Goals.{In_ok-deposit}
 -- what is known once the body has been read
 module _ (c : In_ok-deposit) where
   abbrev body : List ℕ
-  body = c.args.body.now
+  body = c.args.body.bytes.now
 
   abbrev fields : Deposit
   fields = c.in_ok-deposit.deposit
@@ -46,13 +46,10 @@ module _ (c : In_ok-deposit) where
   unfolding SoundFlows
   within = core-within fields.category fields.total.0 (amounts_from body 6) sound.3
 
-pub decode_deposit-requires : goal.decode_deposit-requires
-decode_deposit-requires c = c.requires.body
-
 pub core_row-requires : goal.core_row-requires
 unfolding SoundFlows
 core_row-requires c =
-    record { body_len = (c.requires.body.long, (sound (goal.at.core_row-requires c).In_ok-deposit).1.to, refl); at_most = (amounts-small (sound (goal.at.core_row-requires c).In_ok-deposit).2, within (goal.at.core_row-requires c).In_ok-deposit) }
+    record { body_len = (c.args.body.known.long, (sound (goal.at.core_row-requires c).In_ok-deposit).1.to, refl); at_most = (amounts-small (sound (goal.at.core_row-requires c).In_ok-deposit).2, within (goal.at.core_row-requires c).In_ok-deposit) }
 
 pub enter_row-requires : goal.enter_row-requires
 unfolding SoundFlows

@@ -33,7 +33,7 @@ use Rattle.portfolio.proofs.loan.take_loan.Goals.{In_ok-loan}
 -- what is known once the body has been read
 module _ (c : In_ok-loan) where
   abbrev body : List ℕ
-  body = c.args.body.now
+  body = c.args.body.bytes.now
 
   abbrev fields : Loan
   fields = c.in_ok-loan.loan
@@ -44,9 +44,6 @@ module _ (c : In_ok-loan) where
 
   sound : SoundFlows (loan_of body fields)
   sound = flows-sound (λ _. false) (loan-kind currencies (λ _. false) body).sound read
-
-pub decode_loan-requires : goal.decode_loan-requires
-decode_loan-requires c = c.requires.body
 
 -- a loan's nineteen flows at each of the three rates
 abbrev row : In_ok-loan → ℕ → ℕ → ℕ
@@ -62,7 +59,7 @@ chosen = refl
 pub loan_rows-requires : goal.loan_rows-requires
 unfolding SoundFlows
 loan_rows-requires c =
-    record { body_len = (c.requires.body.long, (sound (goal.at.loan_rows-requires c).In_ok-loan).0.to, refl, refl); sound_schedule = schedule-of (fields (goal.at.loan_rows-requires c).In_ok-loan).share _ _ (sound (goal.at.loan_rows-requires c).In_ok-loan) }
+    record { body_len = (c.args.body.known.long, (sound (goal.at.loan_rows-requires c).In_ok-loan).0.to, refl, refl); sound_schedule = schedule-of (fields (goal.at.loan_rows-requires c).In_ok-loan).share _ _ (sound (goal.at.loan_rows-requires c).In_ok-loan) }
 
 pub enter_rows-requires : goal.enter_rows-requires
 enter_rows-requires c =

@@ -36,7 +36,7 @@ use Rattle.portfolio.proofs.term_deposit.take_term_deposit.Goals.{In_ok-deposit}
 -- what is known once the body has been read
 module _ (c : In_ok-deposit) where
   abbrev body : List ℕ
-  body = c.args.body.now
+  body = c.args.body.bytes.now
 
   abbrev fields : TermDeposit
   fields = c.in_ok-deposit.deposit
@@ -47,9 +47,6 @@ module _ (c : In_ok-deposit) where
 
   sound : SoundFlows (term_deposit_of body fields)
   sound = flows-sound (λ _. false) (term-deposit-kind currencies (λ _. false) body).sound read
-
-pub decode_term_deposit-requires : goal.decode_term_deposit-requires
-decode_term_deposit-requires c = c.requires.body
 
 -- a deposit's nineteen flows at each of the three rates
 abbrev row : In_ok-deposit → ℕ → ℕ → ℕ
@@ -65,7 +62,7 @@ chosen = refl
 pub withdrawn_rows-requires : goal.withdrawn_rows-requires
 unfolding SoundFlows
 withdrawn_rows-requires c =
-    record { body_len = (c.requires.body.long, (sound (goal.at.withdrawn_rows-requires c).In_ok-deposit).0.to, refl); at_most = amounts-small (sound (goal.at.withdrawn_rows-requires c).In_ok-deposit).1 }
+    record { body_len = (c.args.body.known.long, (sound (goal.at.withdrawn_rows-requires c).In_ok-deposit).0.to, refl); at_most = amounts-small (sound (goal.at.withdrawn_rows-requires c).In_ok-deposit).1 }
 
 -- no flow is above all that is deposited
 row_within : (w : In_ok-deposit) (n k : ℕ) → k < buckets → row w n k ≤ sum_of (amounts_from (body w) 3)

@@ -24,7 +24,7 @@ use Rattle.slotting.proofs.coupons.take_coupons.Goals.{In_ok-bond}
 -- what is known once the body has been read
 module _ (c : In_ok-bond) where
   abbrev body : List ℕ
-  body = c.args.body.now
+  body = c.args.body.bytes.now
 
   abbrev fields : Coupons
   fields = c.in_ok-bond.bond
@@ -35,9 +35,6 @@ module _ (c : In_ok-bond) where
 
   sound : SoundFlows (coupons_of fields)
   sound = flows-sound (λ _. false) (coupons-kind currencies (λ _. false) body).sound read
-
-pub decode_coupons-requires : goal.decode_coupons-requires
-decode_coupons-requires c = c.requires.body
 
 pub overflow_mul-bond : goal.overflow_mul-bond
 unfolding SoundFlows

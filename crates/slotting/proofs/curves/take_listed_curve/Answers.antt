@@ -8,10 +8,7 @@ use Rattle.slotting.proofs.curves.take_listed_curve.Goals as goal
 
 pub enter_curve-requires : goal.enter_curve-requires
 enter_curve-requires c =
-    record { from_in_bounds = omega (arith, c.requires.body.long); rates_len = c.requires.rate_parts.long; enterable = enterable _ 5 c.decode_listed_curve.ensures (forget (listed-curve-kind currencies _ _).sound) (listed-good _ _) c.requires.rate_parts }
+    record { from_in_bounds = omega (arith, c.args.body.known.long); rates_len = c.requires.rate_parts.long; enterable = enterable _ 5 c.decode_listed_curve.ensures (forget (listed-curve-kind currencies _ _).sound) (listed-good _ _) c.requires.rate_parts }
 
 pub returns : goal.returns
 returns c = taken_as c.decode_listed_curve.ensures c.enter_curve.ensures
-
-pub decode_listed_curve-requires : goal.decode_listed_curve-requires
-decode_listed_curve-requires c = c.requires.body

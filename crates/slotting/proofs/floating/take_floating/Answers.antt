@@ -21,7 +21,7 @@ use Rattle.slotting.proofs.floating.take_floating.Goals.{In_ok-position}
 -- what is known once the body has been read
 module _ (c : In_ok-position) where
   abbrev body : List ℕ
-  body = c.args.body.now
+  body = c.args.body.bytes.now
 
   abbrev fields : Floating
   fields = c.in_ok-position.position
@@ -32,9 +32,6 @@ module _ (c : In_ok-position) where
 
   sound : SoundFlows (floating_of fields)
   sound = flows-sound (λ _. false) (floating-kind currencies (λ _. false) body).sound read
-
-pub decode_floating-requires : goal.decode_floating-requires
-decode_floating-requires c = c.requires.body
 
 pub overflow_add-position : goal.overflow_add-position
 unfolding SoundFlows

@@ -23,7 +23,7 @@ use Rattle.slotting.proofs.floating_spread.take_floating_spread.Goals.{In_ok-pos
 -- what is known once the body has been read
 module _ (c : In_ok-position) where
   abbrev body : List ℕ
-  body = c.args.body.now
+  body = c.args.body.bytes.now
 
   abbrev fields : FloatingSpread
   fields = c.in_ok-position.position
@@ -38,9 +38,6 @@ module _ (c : In_ok-position) where
 
   sound : SoundFlows (floating_spread_of fields)
   sound = flows-sound (λ _. false) (floating-spread-kind currencies (λ _. false) body).sound read
-
-pub decode_floating_spread-requires : goal.decode_floating_spread-requires
-decode_floating_spread-requires c = c.requires.body
 
 pub overflow_add-floating : goal.overflow_add-floating
 unfolding SoundFlows

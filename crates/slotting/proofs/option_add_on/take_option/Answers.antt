@@ -22,7 +22,7 @@ use Rattle.slotting.proofs.option_add_on.take_option.Goals.{In_ok-option}
 -- what is known once the body has been read
 module _ (c : In_ok-option) where
   abbrev body : List ℕ
-  body = c.args.body.now
+  body = c.args.body.bytes.now
 
   abbrev fields : OptionAddOn
   fields = c.in_ok-option.option
@@ -34,9 +34,6 @@ module _ (c : In_ok-option) where
   small : AtMostℤ billion (values_of fields)
   unfolding Sound
   small = values-small (values_of fields) (known_of (option-kind currencies (λ _. false) body).sound _ read).2
-
-pub decode_option-requires : goal.decode_option-requires
-decode_option-requires c = c.requires.body
 
 pub slot_values-requires : goal.slot_values-requires
 slot_values-requires c =

@@ -21,7 +21,7 @@ use Rattle.slotting.proofs.single.take_single.Goals.{In_ok-flow}
 -- what is known once the body has been read
 module _ (c : In_ok-flow) where
   abbrev body : List ℕ
-  body = c.args.body.now
+  body = c.args.body.bytes.now
 
   abbrev fields : Single
   fields = c.in_ok-flow.flow
@@ -32,9 +32,6 @@ module _ (c : In_ok-flow) where
 
   sound : SoundFlows (single_of fields)
   sound = flows-sound (λ _. false) (single-kind currencies (λ _. false) body).sound read
-
-pub decode_single-requires : goal.decode_single-requires
-decode_single-requires c = c.requires.body
 
 pub slot_due-requires : goal.slot_due-requires
 unfolding SoundFlows
