@@ -23,7 +23,7 @@ use Rattle.arrays.specs.Arrays.{Arrays, in_parts, arrays_as, PartsHold}
 use Rattle.arrays.proofs.Agree.{bind-ext}
 use Rattle.arrays.proofs.More.{same-arrays}
 use Rattle.arrays.proofs.Limit.{no-magnitude, flows-limit, options-limit, curve-limit}
-use Rattle.record.specs.Answers.{Body}
+use Rattle.record.specs.Answers.{IsBody}
 use Rattle.std.specs.Prelude.{Err}
 use Rattle.posting.specs.Parts.{Taken, FlowParts}
 use Rattle.slotting.specs.Parts.{OptionParts, RateParts}
@@ -90,7 +90,7 @@ fit-known over h = chain h (λ r p. unless-known (over r) OverLimit 0 r tt (λ _
 
 -- a body of the kind's length is one of the row's
 pub row-body : {code kind bytes c : ℕ} {curved : ℕ → Bool} {decode_it : List ℕ → Checked Record} {body : List ℕ} → Row currencies kind bytes curved decode_it → code ≡ kind
-    → Body (body_length code) c body → Body bytes c body
+    → IsBody (body_length code) c body → IsBody bytes c body
 row-body of here b = record { long = b.long ∙ ap body_length here ∙ of.long; first = b.first }
 
 module _ (has : Bool) (p : Arrays) (holds : PartsHold has p) {code : ℕ} (body : List ℕ) {kind bytes : ℕ} {decode_it : List ℕ → Checked Record}

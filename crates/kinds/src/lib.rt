@@ -5,13 +5,14 @@ ghost use Rattle.std.specs.Prelude.{◌≡◌, ◌≤◌};
 ghost use Rattle.paper.specs.Records.{body_length, curve_kind};
 ghost use Rattle.arrays.specs.Arrays.{PartsHold};
 ghost use Rattle.arrays.specs.Lent.{lent, before, after};
-ghost use Rattle.record.specs.Answers.{Body};
+ghost use Rattle.record.specs.Answers.{IsBody};
 ghost use Rattle.kinds.specs.Bodies.{TakesBody};
 
 use paper::{Fault, Refusal};
 use portfolio::deposit::take_deposit;
 use portfolio::loan::take_loan;
 use portfolio::term_deposit::take_term_deposit;
+use record::body::Body;
 use slotting::coupons::take_coupons;
 use slotting::curves::{take_curve, take_listed_curve};
 use slotting::floating::take_floating;
@@ -50,21 +51,21 @@ pub fn take_body(
     sizes: &mut [u64],
     options: &mut [u64],
 ) -> Result<(), Fault>
-    requires body { Body (body_length kind) currency body.now }
+    requires body { IsBody (body_length kind) currency body.now }
     requires parts_hold { PartsHold curved (lent section rates addons sizes options) }
     ensures { TakesBody curved kind body.now (before section rates addons sizes options) result (after section rates addons sizes options) }
 {
     match kind {
-        1 => take_single(currency, body, section, sizes),
-        2 => take_coupons(currency, body, section, sizes),
-        3 => take_floating(currency, body, section, sizes),
-        4 => take_deposit(currency, body, section, sizes),
-        5 => take_loan(currency, body, section, sizes),
-        6 => take_term_deposit(currency, body, section, sizes),
-        7 => take_option(currency, body, options, addons),
-        8 => take_curve(currency, curved, body, rates),
-        9 => take_floating_spread(currency, body, section, sizes),
-        10 => take_listed_curve(currency, curved, body, rates),
+        1 => take_single(Body::new(body, currency), section, sizes),
+        2 => take_coupons(Body::new(body, currency), section, sizes),
+        3 => take_floating(Body::new(body, currency), section, sizes),
+        4 => take_deposit(Body::new(body, currency), section, sizes),
+        5 => take_loan(Body::new(body, currency), section, sizes),
+        6 => take_term_deposit(Body::new(body, currency), section, sizes),
+        7 => take_option(Body::new(body, currency), options, addons),
+        8 => take_curve(curved, Body::new(body, currency), rates),
+        9 => take_floating_spread(Body::new(body, currency), section, sizes),
+        10 => take_listed_curve(curved, Body::new(body, currency), rates),
         _ => Err(Fault {
             cause: Refusal::UnknownKind,
             place: 0,

@@ -5,7 +5,7 @@ ghost use Rattle.std.specs.Prelude.{◌≤◌};
 ghost use Rattle.paper.specs.Records.{currencies, body_length};
 ghost use Rattle.arrays.specs.Arrays.{Holding};
 ghost use Rattle.arrays.specs.Lent.{lent, before, after};
-ghost use Rattle.record.specs.Answers.{Body};
+ghost use Rattle.record.specs.Answers.{IsBody};
 ghost use Rattle.lending.specs.Records.{TakesRecord};
 
 use arrays::masks::has_curve;
@@ -23,7 +23,7 @@ pub fn take_parts(
     sizes: &mut [u64],
     options: &mut [u64],
 ) -> Result<(), Fault>
-    requires body { Body (body_length kind) currency body.now × (1 ≤ currency) × (currency ≤ currencies) }
+    requires body { IsBody (body_length kind) currency body.now × (1 ≤ currency) × (currency ≤ currencies) }
     requires holding { Holding (record { used = 0; curved = curved }) (lent ledger rates addons sizes options) }
     ensures { TakesRecord curved kind body.now (before ledger rates addons sizes options) result (after ledger rates addons sizes options) }
 {

@@ -24,11 +24,7 @@ pub struct FloatingSpread {
 pub fn decode_floating_spread(body: Body<'_, 20>) -> Result<FloatingSpread, Fault>
     ensures { checked_as (λ s. flows s.floating.currency (floating_spread_of s)) result ≡ decode_floating_spread currencies body.entry.bytes.now }
 {
-    let reset = Body {
-        bytes: &body.bytes[..13],
-        currency: body.currency,
-    };
-    let floating = decode_floating(reset)?;
+    let floating = decode_floating(Body::new(&body.bytes[..13], body.currency))?;
     let period = period_at(body.bytes, 13)?;
     let count = count_at(floating.months, period, body.bytes, 14)?;
     let spread = amount_at(body.bytes, 16)?;

@@ -1,7 +1,7 @@
 -- `decode_floating_spread` meets its contract: kind 3's fields by kind 3's decoder, then field by field.
 use Prim.Native.Nat.{ℕ, ◌<◌}
 use mathlib.Core.List.{List}
-use mathlib.Core.Path.{◌≡◌, sym, ◌∙◌}
+use mathlib.Core.Path.{◌≡◌, sym, ap, ◌∙◌}
 use native.Mathlib.Omega.{arith}
 use lib.ListN.{get_or, take, length-take}
 use lib.Seq.{get_or-take}
@@ -73,38 +73,38 @@ module _ (body : List ℕ) where
   follows = link _ (λ c. link _ (λ s. link _ (λ m. link _ (λ d. link _ (λ p. link _ (λ x. last c s (record { months = m; days = d }) p x))))))
 
   -- by what kind 3's decoder answers
-  good : (s : Floating) → checked_as as_flows (Ok s) ≡ decode_floating currencies (take 13 body)
+  good : (s : Floating) {lent : List ℕ} → lent ≡ take 13 body → checked_as as_flows (Ok s) ≡ decode_floating currencies lent
       → decode_floating_spread currencies body ≡ rest s.currency s.side (record { months = s.months; days = s.days }) s.principal.0 s.coupon.0
   unfolding checked_as
-  good s told = follows.goes_on _ _ _ _ _ (sym head ∙ sym told)
+  good s same told = follows.goes_on _ _ _ _ _ (sym head ∙ sym (told ∙ ap (decode_floating currencies) same))
 
-  not_good : (f : Fault) → checked_as as_flows (Err f) ≡ decode_floating currencies (take 13 body) → decode_floating_spread currencies body ≡ refused f.cause f.place
+  not_good : (f : Fault) {lent : List ℕ} → lent ≡ take 13 body → checked_as as_flows (Err f) ≡ decode_floating currencies lent → decode_floating_spread currencies body ≡ refused f.cause f.place
   unfolding checked_as
-  not_good f told = follows.refuses _ _ (sym head ∙ sym told)
+  not_good f same told = follows.refuses _ _ (sym head ∙ sym (told ∙ ap (decode_floating currencies) same))
 
-pub slice_bounds-reset-end : goal.slice_bounds-reset-end
-slice_bounds-reset-end c =
+pub slice_bounds-new-end : goal.slice_bounds-new-end
+slice_bounds-new-end c =
     let body = c.args.body in
     omega (arith, length-take 13 body.bytes.now, body.known.long)
 
 pub returns-in_err-floating : goal.returns-in_err-floating
 unfolding checked_as
-returns-in_err-floating c = rw (handed _ c.from_residual.ensures.1, not_good _ _ c.in_err-floating.ensures)
+returns-in_err-floating c = rw (handed _ c.from_residual.ensures.1, not_good _ _ c.new.ensures.0 c.in_err-floating.ensures)
 
 pub returns-in_err-period : goal.returns-in_err-period
 unfolding rest ◌>>=◌ checked_as
-returns-in_err-period c = rw (handed _ c.from_residual-in_err-period.ensures.1, good _ _ c.in_ok-floating.ensures, bad as_it_is c.in_err-period.ensures)
+returns-in_err-period c = rw (handed _ c.from_residual-in_err-period.ensures.1, good _ _ c.new.ensures.0 c.in_ok-floating.ensures, bad as_it_is c.in_err-period.ensures)
 
 pub returns-in_err-count : goal.returns-in_err-count
 unfolding rest ◌>>=◌ checked_as
 returns-in_err-count c =
-    rw (handed _ c.from_residual-in_err-count.ensures.1, good _ _ c.in_ok-floating.ensures, value c.in_ok-period.ensures, bad as_it_is c.in_err-count.ensures)
+    rw (handed _ c.from_residual-in_err-count.ensures.1, good _ _ c.new.ensures.0 c.in_ok-floating.ensures, value c.in_ok-period.ensures, bad as_it_is c.in_err-count.ensures)
 
 pub returns-in_err-spread : goal.returns-in_err-spread
 unfolding rest ◌>>=◌ checked_as
 returns-in_err-spread c =
-    rw (handed _ c.from_residual-in_err-spread.ensures.1, good _ _ c.in_ok-floating.ensures, value c.in_ok-period.ensures, value c.in_ok-count.ensures, bad thousands c.in_err-spread.ensures)
+    rw (handed _ c.from_residual-in_err-spread.ensures.1, good _ _ c.new.ensures.0 c.in_ok-floating.ensures, value c.in_ok-period.ensures, value c.in_ok-count.ensures, bad thousands c.in_err-spread.ensures)
 
 pub returns : goal.returns
 unfolding rest ◌>>=◌ checked_as
-returns c = rw (good _ _ c.in_ok-floating.ensures, value c.in_ok-period.ensures, value c.in_ok-count.ensures, amount-value c.in_ok-spread.ensures)
+returns c = rw (good _ _ c.new.ensures.0 c.in_ok-floating.ensures, value c.in_ok-period.ensures, value c.in_ok-count.ensures, amount-value c.in_ok-spread.ensures)
