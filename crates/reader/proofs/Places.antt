@@ -2,14 +2,15 @@
 use Prim.Native.Nat.{ℕ, suc, ◌+◌, ◌≤◌, ◌<◌}
 use mathlib.Core.Bool.{Bool, true, false}
 use mathlib.Core.List.{List}
-use mathlib.Core.Path.{◌≡◌, refl, ap}
+use mathlib.Core.Path.{◌≡◌, refl, sym, ap, ◌∙◌}
 use native.Mathlib.Nat.{add-zero}
 use native.Mathlib.Omega.{arith}
-use borrow.Author.Tests.{le-leb, lt-leb, leb-true, leb-false, lt-ltb, le-ltb, ne_eqb}
+use borrow.Author.Tests.{le-leb, lt-leb, leb-true, leb-false, lt-ltb, le-ltb}
 use lib.ListN.{length}
 use Rattle.std.specs.Prelude.{Option, Some, None, Result, Ok, Err, if◌then◌else◌}
 use Rattle.laws.specs.Tests.{◌up_to◌}
 use Rattle.paper.specs.declared.Fault.{Fault}
+use Rattle.paper.specs.declared.Refusal.{Refusal}
 use Rattle.paper.specs.declared.Refusal.TheVariants.{UnknownKind, CutShort}
 use Rattle.paper.specs.Refusals.{refused, ◌>>◌, unless, fault}
 use Rattle.paper.specs.Records.{body_length, currencies}
@@ -17,6 +18,9 @@ use Rattle.paper.specs.Ledger.{SoFar}
 use Rattle.paper.specs.TurnedDown.{unknown_kind, cut_short}
 use Rattle.paper.specs.Fields.{byte}
 use Rattle.paper.specs.Book.{placed, record_at, next_at}
+use Rattle.kinds.specs.declared.kind.Kind.{Kind}
+use Rattle.kinds.specs.Kind.{kind_number, kind_of}
+use Rattle.kinds.proofs.Numbers.{number-known, kind-of-number, number-of-kind}
 use Rattle.reader.specs.declared.Found.{Found}
 use Rattle.reader.specs.Reader.{stands_at, place_after}
 
@@ -25,19 +29,22 @@ module _ (book : List ℕ) (at : ℕ) where
   unfolding stands_at
   stands-end l = rw (le-leb (length book) at l)
 
-  module _ {kind : ℕ} (is : kind ≡ byte book at) (l : at < length book) where
-    pub stands-unknown : body_length kind ≡ 0 → Some (Err (fault UnknownKind at)) ≡ stands_at book at
-    unfolding stands_at unknown_kind
-    stands-unknown e = let own = rw is at e in rw (lt-leb (length book) at l, own)
+  pub stands-unknown : {number : ℕ} → number ≡ byte book at → at < length book → {cause : Refusal} → (cause ≡ UnknownKind) × (unknown_kind number ≡ true)
+      → Some (Err (fault cause at)) ≡ stands_at book at
+  unfolding stands_at
+  stands-unknown is l (why, none) = let own = rw is at none in rw (lt-leb (length book) at l, own, why)
 
-    module _ (some : body_length kind ≡ 0 → ⊥) where
-      pub stands-cut : length book < suc at + body_length kind → Some (Err (fault CutShort at)) ≡ stands_at book at
-      unfolding stands_at unknown_kind cut_short
-      stands-cut h = let own = rw is at some in let far = rw is at h in rw (lt-leb (length book) at l, ne_eqb (body_length (byte book at)) 0 own, lt-ltb (length book) (suc at + body_length (byte book at)) far)
+  module _ (kind : Kind) (is : kind_number kind ≡ byte book at) (l : at < length book) where
+    abbrev end : ℕ
+    end = suc at + body_length (kind_number kind)
 
-      pub stands-whole : suc at + body_length kind ≤ length book → Some (Ok (record { kind = kind; at = at; next = suc at + body_length kind })) ≡ stands_at book at
-      unfolding stands_at unknown_kind cut_short next_at
-      stands-whole h = let own = rw is at some in let near = rw is at h in rw (is, lt-leb (length book) at l, ne_eqb (body_length (byte book at)) 0 own, le-ltb (length book) (suc at + body_length (byte book at)) near)
+    pub stands-cut : length book < end → Some (Err (fault CutShort at)) ≡ stands_at book at
+    unfolding stands_at cut_short
+    stands-cut h = rw (sym is, lt-leb (length book) at l, number-known kind, lt-ltb (length book) end h)
+
+    pub stands-whole : end ≤ length book → Some (Ok (record { kind = kind; at = at; next = end })) ≡ stands_at book at
+    unfolding stands_at cut_short next_at
+    stands-whole h = rw (sym is, lt-leb (length book) at l, number-known kind, le-ltb (length book) end h, kind-of-number kind)
 
 -- ---- what was read, back to the tests
 
@@ -46,7 +53,7 @@ pub record Whole (book : List ℕ) (at : ℕ) (found : Found) : Type 0 where
   pub goes_on : (length book up_to at) ≡ false
   pub known : unknown_kind (byte book at) ≡ false
   pub whole : cut_short (byte book at) at (length book) ≡ false
-  pub kind-is : found.kind ≡ byte book at
+  pub kind-is : kind_number found.kind ≡ byte book at
   pub at-is : found.at ≡ at
   pub next-is : found.next ≡ next_at book at
 
@@ -65,7 +72,7 @@ module _ (book : List ℕ) (at : ℕ) where
       if over then None else
       if unknown then Some (Err (fault UnknownKind at)) else
       if cut then Some (Err (fault CutShort at)) else
-      Some (Ok (record { kind = kind; at = at; next = next_at book at }))
+      Some (Ok (record { kind = kind_of kind; at = at; next = next_at book at }))
 
   nothing : (b unknown cut : Bool) → None ≡ tested b unknown cut → b ≡ true
   nothing true unknown cut e = refl
@@ -78,12 +85,12 @@ module _ (book : List ℕ) (at : ℕ) where
   one_found found false true cut o u c e = let z : ◌≡◌ {A = ℕ} 0 1 = cc in absurd (omega arith)
   one_found found false false true o u c e = let z : ◌≡◌ {A = ℕ} 0 1 = cc in absurd (omega arith)
   one_found found false false false o u c e =
-      let same : found ≡ record { kind = kind; at = at; next = next_at book at } = cc in
+      let same : found ≡ record { kind = kind_of kind; at = at; next = next_at book at } = cc in
       record {
         goes_on = o;
         known = u;
         whole = c;
-        kind-is = ap (λ (f : Found). f.kind) same;
+        kind-is = ap (λ (f : Found). kind_number f.kind) same ∙ number-of-kind kind u;
         at-is = ap (λ (f : Found). f.at) same;
         next-is = ap (λ (f : Found). f.next) same;
       }

@@ -8,6 +8,7 @@ use Rattle.paper.specs.Refusals.{fault}
 use Rattle.paper.specs.TurnedDown.{unknown_kind, cut_short}
 use Rattle.paper.specs.Fields.{byte}
 use Rattle.paper.specs.Book.{next_at}
+use Rattle.kinds.specs.Kind.{kind_of}
 use Rattle.reader.specs.declared.Reader.{Reader}
 use Rattle.reader.specs.declared.Found.{Found}
 
@@ -18,7 +19,7 @@ stands_at book at =
     if length book up_to at then None else
     if unknown_kind kind then Some (Err (fault UnknownKind at)) else
     if cut_short kind at (length book) then Some (Err (fault CutShort at)) else
-    Some (Ok (record { kind = kind; at = at; next = next_at book at }))
+    Some (Ok (record { kind = kind_of kind; at = at; next = next_at book at }))
 
 -- the place to read at next: past a record; after a refusal the book's end, so that nothing more comes
 abbrev pub place_after : List ℕ → ℕ → Option (Result Found Fault) → ℕ

@@ -4,7 +4,7 @@
 ghost use Rattle.std.specs.Prelude.{◌≡◌};
 ghost use Rattle.reader.specs.Reader.{stands_at, Reads, bytes_left};
 
-use kinds::body_length;
+use kinds::Kind;
 use paper::{Fault, Refusal};
 
 #[derive(Drop)]
@@ -16,7 +16,7 @@ pub struct Reader<'a> {
 // A whole record is told by its kind, its first byte, and where it ends, which is the place of the next.
 #[derive(Clone, Copy)]
 pub struct Found {
-    pub kind: u8,
+    pub kind: Kind,
     pub at: usize,
     pub next: usize,
 }
@@ -25,13 +25,13 @@ pub struct Found {
 fn stands_at(book: &[u8], at: usize) -> Option<Result<Found, Fault>>
     ensures { result ≡ stands_at book.now at }
 {
-    let kind = *book.get(at)?;
-    let bytes = body_length(kind);
-    if bytes == 0 {
-        let cause = Refusal::UnknownKind;
-        return Some(Err(Fault { cause, place: at }));
-    }
+    let byte = *book.get(at)?;
+    let kind = match Kind::try_from(byte) {
+        Ok(kind) => kind,
+        Err(cause) => return Some(Err(Fault { cause, place: at })),
+    };
     let start = at + 1;
+    let bytes = kind.body_length();
     let next = start + bytes;
     if book.len() < next {
         let cause = Refusal::CutShort;
