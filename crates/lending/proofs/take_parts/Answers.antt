@@ -1,6 +1,7 @@
 -- `take_parts`: the five parts of the currency are lent, and come back.
 use Rattle.arrays.specs.Arrays.{arrays_as}
 use Rattle.arrays.proofs.Bounds.{parts-hold}
+use Rattle.kinds.specs.Kind.{kind_number}
 use Rattle.lending.proofs.Parts.{lent-hold, lent-taken}
 use Rattle.lending.proofs.take_parts.Goals as goal
 
@@ -16,5 +17,5 @@ pub returns : goal.returns
 returns c =
     let found = arrays_as c.args.ledger.now c.args.rates.now c.args.addons.now c.args.sizes.now c.args.options.now in
     let l = c.take_body.new in
-    lent-taken c.args.curved found c.args.currency c.args.kind c.args.body.now c.requires.body.0.first c.has_curve.ensures
+    lent-taken c.args.curved found c.args.currency (kind_number c.args.kind) c.args.body.now c.requires.body.0.first c.has_curve.ensures
     {p' = arrays_as l.section l.rates l.addons l.sizes l.options} c.take_body.ensures
