@@ -1,16 +1,14 @@
 -- A turn of the walk: a whole record is what the paper's tests say of its place, and its body is admitted as the paper's is.
 use Prim.Native.Nat.{ℕ, suc, ◌+◌, ◌-◌, ◌≤◌, ◌<◌}
-use mathlib.Core.Bool.{Bool, true, false}
+use mathlib.Core.Bool.{Bool, false}
 use mathlib.Core.List.{List}
 use mathlib.Core.Path.{◌≡◌, refl, sym, ap, ap₂, ◌∙◌}
 use native.Mathlib.Numerals.{add-one}
 use native.Mathlib.Omega.{arith}
 use borrow.Author.Tests.{ltb-false, eqb-false}
 use lib.ListN.{length, take, drop}
-use Rattle.std.specs.Prelude.{Option, Some, None, Result, Ok, Err, if◌then◌else◌}
-use Rattle.laws.specs.Tests.{◌up_to◌}
+use Rattle.std.specs.Prelude.{Result, Ok, Err}
 use Rattle.laws.proofs.Sections.{length-section}
-use Rattle.paper.specs.declared.Refusal.TheVariants.{UnknownKind, CutShort}
 use Rattle.paper.specs.declared.Fault.{Fault}
 use Rattle.paper.specs.Refusals.{Checked, accepted, refused, ◌>>=◌, ◌>>◌, unless, fault, result_of}
 use Rattle.paper.specs.Records.{Record, body_length, currency_of, is_curve, curve_kind, currencies}
@@ -20,12 +18,14 @@ use Rattle.paper.specs.Fields.{byte, currency_at}
 use Rattle.paper.specs.Book.{placed, admitted, record_at, next_at}
 use Rattle.paper.proofs.Checks.{known_of, cause-of, chain, unless-known, inside-most}
 use Rattle.paper.proofs.Walk.{admitted-inside}
-use Rattle.paper.proofs.Ranges.{currency-known}
 use Rattle.paper.proofs.KindTable.{first_field}
 use Rattle.arrays.specs.declared.masks.Masks.{Masks}
 use Rattle.arrays.specs.Masks.{marked_by}
 use Rattle.arrays.specs.Arrays.{Arrays, Holding, with_record}
 use Rattle.posting.specs.Answers.{into}
+use Rattle.kinds.specs.declared.kind.Kind.{Kind}
+use Rattle.kinds.specs.Kind.{kind_number}
+use Rattle.kinds.proofs.Numbers.{number-known}
 use Rattle.reader.specs.declared.Found.{Found}
 use Rattle.reader.proofs.Places.{Whole}
 use Rattle.turn.specs.Step.{fault_at, Stepped}
@@ -39,9 +39,8 @@ body_in book found = take (found.next - (found.at + 1)) (drop (found.at + 1) boo
 pub record InBook (book : List ℕ) (found : Found) : Type 0 where
   pub starts : found.at + 1 ≤ found.next
   pub ends : found.next ≤ length book
-  pub long : length (body_in book found) ≡ body_length found.kind
-  pub known : unknown_kind found.kind ≡ false
-  pub within : found.at + body_length found.kind < length book
+  pub long : length (body_in book found) ≡ body_length (kind_number found.kind)
+  pub within : found.at + body_length (kind_number found.kind) < length book
 
 module _ {book : List ℕ} {found : Found} (l : Whole book found.at found) where
   -- the bytes that the reader points at are the paper's body
@@ -55,12 +54,11 @@ module _ {book : List ℕ} {found : Found} (l : Whole book found.at found) where
       let bytes = body_length (byte book found.at) in
       let within : suc found.at + bytes ≤ length book = ltb-false (length book) (suc found.at + bytes) l.whole in
       let long : length (body_in book found) ≡ bytes = rw same_body (length-section (found.at + 1) bytes book (omega (arith, within))) in
-      let own : bytes ≡ body_length found.kind = ap body_length (sym l.kind-is) in
+      let own : bytes ≡ body_length (kind_number found.kind) = ap body_length (sym l.kind-is) in
       record {
         starts = omega (arith, l.next-is);
         ends = omega (arith, l.next-is, within);
         long = long ∙ own;
-        known = ap unknown_kind l.kind-is ∙ l.known;
         within = omega (arith, own, within);
       }
 
@@ -85,9 +83,9 @@ all_said = result_of (λ r. tt)
 
 -- ---- a whole body of a known kind
 
-pub known-long : (kind : ℕ) → unknown_kind kind ≡ false → 0 < body_length kind
+pub body-long : (kind : Kind) → 0 < body_length (kind_number kind)
 unfolding unknown_kind
-known-long kind e = omega (arith, eqb-false (body_length kind) 0 e)
+body-long kind = omega (arith, eqb-false (body_length (kind_number kind)) 0 (number-known kind))
 
 -- reading a body asks nothing of the currencies used
 pub curves-hold : {m : Masks} {a : Arrays} → Holding m a → Holding (record { used = 0; curved = m.curved }) a
@@ -142,6 +140,6 @@ module _ (at : ℕ) (m : Masks) (a a' : Arrays) where
       record { answered = ap (λ (g : Fault). Err (fault_at at g)) same; arrays = s.arrays }
 
 pub turn-record : (before : SoFar) {book : List ℕ} {found : Found} → Whole book found.at found → {m : Masks} {a a' : Arrays} {answer : Result Masks Fault}
-    → Stepped (placed found.at (admitted currencies before found.kind (body_in book found))) m a answer a' → Stepped (record_at currencies before book found.at) m a answer a'
+    → Stepped (placed found.at (admitted currencies before (kind_number found.kind) (body_in book found))) m a answer a' → Stepped (record_at currencies before book found.at) m a answer a'
 unfolding record_at unless ◌>>◌
 turn-record before l s = let u = rw (same_body l, l.kind-is, add-one) at s in rw (l.known, l.whole) u

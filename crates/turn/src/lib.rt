@@ -2,17 +2,17 @@
 // currency's parts of the arrays are lent on.
 #![tactic(auto)]
 
-ghost use Rattle.std.specs.Prelude.{false, ◌≡◌, ◌+◌, length, Ok, Some};
+ghost use Rattle.std.specs.Prelude.{◌≡◌, ◌+◌, length, Ok, Some};
 ghost use Rattle.paper.specs.Records.{body_length};
-ghost use Rattle.paper.specs.TurnedDown.{unknown_kind};
 ghost use Rattle.arrays.specs.Arrays.{Holding};
 ghost use Rattle.arrays.specs.Lent.{lent, before, after};
+ghost use Rattle.kinds.specs.Kind.{kind_number};
 ghost use Rattle.reader.specs.Reader.{stands_at};
 ghost use Rattle.turn.specs.Step.{Addressed, StepsOver, Turns, fault_at};
 
 use arrays::masks::Masks;
 use fields::currency_at;
-use kinds::curve_kind;
+use kinds::Kind;
 use lending::take_parts;
 use paper::Fault;
 use reader::Found;
@@ -26,9 +26,9 @@ fn placed(fault: Fault, at: usize) -> Fault
     Fault { place, ..fault }
 }
 
-// A whole body of a known kind.
+// A whole body.
 fn take_body(
-    kind: u8,
+    kind: Kind,
     body: &[u8],
     masks: Masks,
     ledger: &mut [i64],
@@ -37,8 +37,8 @@ fn take_body(
     sizes: &mut [u64],
     options: &mut [u64],
 ) -> Result<Masks, Fault>
-    requires { (length body.now ≡ body_length kind) × (unknown_kind kind ≡ false) × Holding masks (lent ledger rates addons sizes options) }
-    ensures { StepsOver kind body.now masks (before ledger rates addons sizes options) result (after ledger rates addons sizes options) }
+    requires { (length body.now ≡ body_length (kind_number kind)) × Holding masks (lent ledger rates addons sizes options) }
+    ensures { StepsOver (kind_number kind) body.now masks (before ledger rates addons sizes options) result (after ledger rates addons sizes options) }
 {
     let currency = currency_at(body, 0)?;
     take_parts(
@@ -52,7 +52,7 @@ fn take_body(
         sizes,
         options,
     )?;
-    if curve_kind(kind) {
+    if kind.is_curve() {
         return Ok(masks.with_curve(currency));
     }
     Ok(masks.with_used(currency))

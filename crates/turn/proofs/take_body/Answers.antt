@@ -1,10 +1,9 @@
 -- `take_body`: the currency is bad, the record refused, or taken.
-use Prim.Native.Nat.{ℕ}
 use mathlib.Core.Bool.{Bool}
-use mathlib.Core.Path.{◌≡◌, refl, sym, ap, ◌∙◌}
+use mathlib.Core.Path.{◌≡◌, sym, ap, ◌∙◌}
 use native.Mathlib.Omega.{arith}
-use Rattle.paper.specs.Refusals.{Checked, accepted, refused, result_of}
-use Rattle.paper.specs.Records.{Record, currencies}
+use Rattle.paper.specs.Refusals.{accepted}
+use Rattle.paper.specs.Records.{currencies}
 use Rattle.paper.specs.Fields.{currency_at}
 use Rattle.paper.specs.Sound.{Between}
 use Rattle.paper.proofs.Checks.{known_of}
@@ -13,8 +12,10 @@ use Rattle.arrays.specs.Masks.{marked_by}
 use Rattle.arrays.specs.Arrays.{Arrays, arrays_as}
 use Rattle.fields.specs.Answers.{as_it_is}
 use Rattle.fields.proofs.Reading.{handed, value, bad}
+use Rattle.kinds.specs.Kind.{kind_number}
+use Rattle.kinds.proofs.Numbers.{number-known}
 use Rattle.lending.specs.Records.{tested}
-use Rattle.turn.proofs.TurnLaws.{accepted-as, refused-as, all_said, known-long, curves-hold, stepped-bad, stepped-refused, stepped-done}
+use Rattle.turn.proofs.TurnLaws.{body-long, stepped-bad, stepped-done}
 use Rattle.turn.proofs.take_body.Goals as goal
 use Rattle.turn.proofs.take_body.Goals.{Start, In_ok-currency}
 
@@ -30,10 +31,10 @@ range : (c : In_ok-currency) → Between 1 currencies c.in_ok-currency.currency
 range c = known_of (currency-known {bytes = 1} c.args.body.now 0 (omega arith) currencies) c.in_ok-currency.currency (first c)
 
 pub currency_at-requires : goal.currency_at-requires
-currency_at-requires c = omega (arith, c.requires.0, known-long c.args.kind c.requires.1)
+currency_at-requires c = omega (arith, c.requires.0, body-long c.args.kind)
 
 pub returns-in_err-currency : goal.returns-in_err-currency
-returns-in_err-currency c = rw (handed _ c.from_residual.ensures.1) (stepped-bad _ c.args.kind _ c.args.masks _ c.requires.1 _ (bad as_it_is c.in_err-currency.ensures))
+returns-in_err-currency c = rw (handed _ c.from_residual.ensures.1) (stepped-bad _ (kind_number c.args.kind) _ c.args.masks _ (number-known c.args.kind) _ (bad as_it_is c.in_err-currency.ensures))
 
 pub take_parts-requires-clause-body : goal.take_parts-requires-clause-body
 take_parts-requires-clause-body c =
@@ -43,12 +44,12 @@ take_parts-requires-clause-body c =
 pub with_curve-requires : goal.with_curve-requires
 with_curve-requires c = let r = range (goal.at.with_curve-requires c).In_ok-currency in (r.from, r.to)
 
-pub returns-then-curve_kind : goal.returns-then-curve_kind
-returns-then-curve_kind c =
-    let a = found (goal.at.returns-then-curve_kind c).Start in
+pub returns-then-is_curve : goal.returns-then-is_curve
+returns-then-is_curve c =
+    let a = found (goal.at.returns-then-is_curve c).Start in
     let l = c.take_parts.new in
-    let same = sym c.if-curve_kind.true ∙ c.curve_kind.ensures in
-    stepped-done (tested c.args.masks.curved a) c.args.kind c.args.body.now c.args.masks a c.in_ok-currency.currency (first (goal.at.returns-then-curve_kind c).In_ok-currency)
+    let same = sym c.if-is_curve.true ∙ c.is_curve.ensures in
+    stepped-done (tested c.args.masks.curved a) (kind_number c.args.kind) c.args.body.now c.args.masks a c.in_ok-currency.currency (first (goal.at.returns-then-is_curve c).In_ok-currency)
     {a' = arrays_as l.ledger l.rates l.addons l.sizes l.options} (c.in_ok-take_parts.ensures.answered) c.in_ok-take_parts.ensures.arrays
     (c.with_curve.ensures ∙ ap (λ (x : Bool). marked_by x c.in_ok-currency.currency c.args.masks) same)
 
@@ -59,7 +60,7 @@ pub returns : goal.returns
 returns c =
     let a = found (goal.at.returns c).Start in
     let l = c.take_parts.new in
-    let same = sym c.if-curve_kind.false ∙ c.curve_kind.ensures in
-    stepped-done (tested c.args.masks.curved a) c.args.kind c.args.body.now c.args.masks a c.in_ok-currency.currency (first (goal.at.returns c).In_ok-currency)
+    let same = sym c.if-is_curve.false ∙ c.is_curve.ensures in
+    stepped-done (tested c.args.masks.curved a) (kind_number c.args.kind) c.args.body.now c.args.masks a c.in_ok-currency.currency (first (goal.at.returns c).In_ok-currency)
     {a' = arrays_as l.ledger l.rates l.addons l.sizes l.options} (c.in_ok-take_parts.ensures.answered) c.in_ok-take_parts.ensures.arrays
     (c.with_used.ensures ∙ ap (λ (x : Bool). marked_by x c.in_ok-currency.currency c.args.masks) same)

@@ -1,8 +1,7 @@
 -- `take_record`: the body lies in the book, and a fault of it is told where the record begins.
-use mathlib.Core.Path.{sym, ap, ◌∙◌}
 use native.Mathlib.Omega.{arith}
-use Rattle.std.specs.Prelude.{Err}
 use Rattle.arrays.specs.Arrays.{Arrays, arrays_as}
+use Rattle.kinds.specs.Kind.{kind_number}
 use Rattle.lending.specs.Records.{tested}
 use Rattle.reader.proofs.Places.{Whole, found-at}
 use Rattle.turn.proofs.TurnLaws.{InBook, in-book, body_in, refused-as, fault-inside, placed-taken, placed-refused, turn-record}
@@ -34,12 +33,12 @@ pub slice_bounds-body-end : goal.slice_bounds-body-end
 slice_bounds-body-end c = (within (goal.at.slice_bounds-body-end c).Start).ends
 
 pub take_body-requires : goal.take_body-requires
-take_body-requires c = let w = within (goal.at.take_body-requires c).Start in (w.long, w.known, c.requires.1)
+take_body-requires c = let w = within (goal.at.take_body-requires c).Start in (w.long, c.requires.1)
 
 pub placed-requires : goal.placed-requires
 placed-requires c =
     let s = (goal.at.placed-requires c).Start in
-    omega (arith, (within s).within, fault-inside (tested c.args.masks.curved (found s)) c.args.found.kind (body_in c.args.book.now c.args.found) c.in-Err.fault (refused-as _ c.in-Err.ensures.answered))
+    omega (arith, (within s).within, fault-inside (tested c.args.masks.curved (found s)) (kind_number c.args.found.kind) (body_in c.args.book.now c.args.found) c.in-Err.fault (refused-as _ c.in-Err.ensures.answered))
 
 pub returns-in-Ok : goal.returns-in-Ok
 returns-in-Ok c = turn-record _ (whole (goal.at.returns-in-Ok c).Start) (placed-taken _ _ _ _ _ _ c.in-Ok.ensures)
