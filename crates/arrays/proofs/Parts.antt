@@ -41,7 +41,7 @@ this-part width c j w l h k =
     omega arith
 
 -- the test of a part is the test of the currency
-part-test : (width c j : ℕ) → 0 < width → 1 ≤ c → (width * (c - 1) up_to j && j below width * (c - 1) + width) ≡ (c is suc (j / width))
+pub part-test : (width c j : ℕ) → 0 < width → 1 ≤ c → (width * (c - 1) up_to j && j below width * (c - 1) + width) ≡ (c is suc (j / width))
 part-test width c j w l = by (lt-or-ge j a) (lt-or-ge j (a + width))
   where
     a : ℕ

@@ -65,11 +65,6 @@ one-mask curves curves' kept kept' e f p =
     let same : kept ≡ kept' = cc in
     rw (sym mask, sym same) p
 
--- the arrays before the first record
-pub nothing_yet : (ledger before : List ℤ) → length before ≡ cells currencies → ledger ≡ replicate (length before) (pos 0)
-    → arrays_as ledger (replicate (cells currencies) (pos 0)) (replicate (shocked * currencies) (pos 0)) (replicate (scenarios * currencies) 0) (replicate (shocked * currencies) 0) ≡ arrays_of []
-nothing_yet ledger before long e = rw (e, long) (sym nothing-kept)
-
 -- ---- what is known of the records of a book that is loaded
 
 records-covered : (book : List ℕ) → Known (λ kept. first (lacks_curve kept) 1 currencies ≡ suc currencies) (of_records book)

@@ -3,13 +3,35 @@ ghost use Rattle.std.specs.Prelude.{◌≡◌, ◌≤◌, length};
 ghost use Rattle.paper.specs.Records.{currencies};
 ghost use Rattle.paper.specs.Ledger.{cells, figures};
 ghost use Rattle.paper.specs.TurnedDown.{bad_capital, room_too_small};
+ghost use Rattle.paper.specs.Verdict.{report_of};
+ghost use Rattle.arrays.specs.Masks.{curved_by};
+ghost use Rattle.arrays.specs.Rooms.{totals_by};
+ghost use Rattle.valuation.specs.Bounds.{Bounds};
 ghost use Rattle.load.specs.Load.{of_records};
 ghost use Rattle.book.specs.Assessed.{Answers, Assesses, Truthful, without_place};
 
+use lending::Working;
 use load::load;
-use paper::{CELLS, CHANGES, CURRENCIES, FIGURES, Fault, LONGEST_BOOK, Refusal, SCENARIOS};
+use paper::{CELLS, FIGURES, Fault, LONGEST_BOOK, Refusal};
 use scales::Thousands;
 use valuation::fill_report;
+
+// The report that the working arrays come to.
+fn report_of(working: &Working, curved: u32, tier1: Thousands, report: &mut [i64])
+    requires report_len { length report.old ≡ figures currencies }
+    requires tier1_bound { tier1.0 ≤ 1_000_000_000_000 }
+    requires bounds { Bounds (totals_by working.now.ledger.now working.now.addons working.now.rates) (curved_by curved) }
+    ensures { report.new ≡ report_of currencies (totals_by working.now.ledger.now working.now.addons working.now.rates) tier1.0 }
+{
+    fill_report(
+        working.ledger,
+        &working.rates,
+        &working.addons,
+        curved,
+        tier1,
+        report,
+    );
+}
 
 // The records, then the report: the capital and the rooms are those that 16 and 18 ask for.
 fn assess_records(
@@ -22,25 +44,14 @@ fn assess_records(
     requires report_len { (length report.old ≡ figures currencies) × (length ledger.old ≡ cells currencies) }
     ensures { Answers (of_records book.now) tier1.0 report.old ledger.old result report.new ledger.new }
 {
-    ledger.fill(0);
-    let mut rates = [0i32; CELLS];
-    let mut addons = [0i64; CHANGES];
-    let mut sizes = [0u64; SCENARIOS * CURRENCIES];
-    let mut options = [0u64; CHANGES];
-    match load(
-        book,
-        ledger,
-        &mut rates,
-        &mut addons,
-        &mut sizes,
-        &mut options,
-    ) {
+    let mut working = Working::new(ledger);
+    match load(book, &mut working) {
         Err(fault) => {
             ledger.fill(0);
             Err(fault)
         }
         Ok(curved) => {
-            fill_report(ledger, &rates, &addons, curved, tier1, report);
+            report_of(&working, curved, tier1, report);
             Ok(curved)
         }
     }

@@ -1,49 +1,78 @@
-// A currency's parts of the five arrays, lent in one call to the function of a record's kind.
+// The working arrays of an assessment, and a record taken into its currency's own parts of them.
 #![tactic(auto)]
 
-ghost use Rattle.std.specs.Prelude.{◌≤◌};
+ghost use Rattle.std.specs.Prelude.{[], ◌≡◌, ◌≤◌, length};
 ghost use Rattle.paper.specs.Records.{currencies, body_length};
-ghost use Rattle.arrays.specs.Arrays.{Holding};
-ghost use Rattle.arrays.specs.Lent.{lent, before, after};
+ghost use Rattle.paper.specs.Ledger.{cells};
+ghost use Rattle.arrays.specs.Arrays.{arrays_of};
+ghost use Rattle.arrays.specs.Within.{AddOnsWithin, Bare, CellsWithin, Limited};
 ghost use Rattle.record.specs.Answers.{IsBody};
 ghost use Rattle.kinds.specs.Kind.{kind_number};
 ghost use Rattle.lending.specs.Records.{TakesRecord};
 
 use arrays::masks::has_curve;
 use kinds::{Kind, take_body};
-use paper::{Fault, SCENARIOS, SECTION, SHOCKED};
+use paper::{CELLS, CHANGES, CURRENCIES, Fault, SCENARIOS, SECTION, SHOCKED};
 
-pub fn take_parts(
-    kind: Kind,
-    currency: u32,
-    curved: u32,
-    body: &[u8],
-    ledger: &mut [i64],
-    rates: &mut [i32],
-    addons: &mut [i64],
-    sizes: &mut [u64],
-    options: &mut [u64],
-) -> Result<(), Fault>
-    requires body { IsBody (body_length (kind_number kind)) currency body.now × (1 ≤ currency) × (currency ≤ currencies) }
-    requires holding { Holding (record { used = 0; curved = curved }) (lent ledger rates addons sizes options) }
-    ensures { TakesRecord curved (kind_number kind) body.now (before ledger rates addons sizes options) result (after ledger rates addons sizes options) }
-{
-    let part = currency as usize - 1;
-    let cell = SECTION * part;
-    let cells = cell + SECTION;
-    let six = SHOCKED * part;
-    let sixes = six + SHOCKED;
-    let size = SCENARIOS * part;
-    let sums = size + SCENARIOS;
-    take_body(
-        kind,
-        currency,
-        has_curve(curved, currency),
-        body,
-        &mut ledger[cell..cells],
-        &mut rates[cell..cells],
-        &mut addons[six..sixes],
-        &mut sizes[size..sums],
-        &mut options[six..sixes],
-    )
+// What the records kept come to. The ledger is the caller's room; the other four are seen by nobody else. Ledger and rates have 133 places a currency, sizes 7, add-ons and the
+// sizes of options 6. No cell is more than its scenario's sum of sizes, no add-on more than its sum of options, and by 14 none of these sums passes a billion.
+#[derive(Drop)]
+pub struct Working<'a> {
+    pub ledger: &'a mut [i64],
+    pub rates: [i32; CELLS],
+    pub addons: [i64; CHANGES],
+    pub sizes: [u64; SCENARIOS * CURRENCIES],
+    pub options: [u64; CHANGES],
+    pub ghost room: { length ledger.now ≡ cells currencies },
+    pub ghost cells_within: { CellsWithin ledger.now sizes },
+    pub ghost addons_within: { AddOnsWithin addons options },
+    pub ghost sizes_limited: { Limited sizes },
+    pub ghost options_limited: { Limited options },
+}
+
+impl<'a> Working<'a> {
+    ghost use Rattle.lending.specs.Working.{arrays_in};
+
+    // Nothing is kept yet.
+    pub fn new(ledger: &'a mut [i64]) -> Working<'a>
+        requires { length ledger.now ≡ cells currencies }
+        ensures same_ledger { result.ledger.ghost_name ≡ ledger.entry.ghost_name }
+        ensures nothing_kept { arrays_in result ≡ arrays_of [] }
+    {
+        ledger.fill(0);
+        Working {
+            ledger,
+            rates: [0; CELLS],
+            addons: [0; CHANGES],
+            sizes: [0; SCENARIOS * CURRENCIES],
+            options: [0; CHANGES],
+        }
+    }
+
+    // The currency's parts are lent in one call to the function of the record's kind.
+    pub fn take(&mut self, kind: Kind, currency: u32, curved: u32, body: &[u8]) -> Result<(), Fault>
+        requires body { IsBody (body_length (kind_number kind)) currency body.now × (1 ≤ currency) × (currency ≤ currencies) }
+        requires bare { Bare curved self.old.rates }
+        ensures same_ledger { self.new.ledger.ghost_name ≡ self.old.ledger.ghost_name }
+        ensures taken { TakesRecord curved (kind_number kind) body.now (arrays_in self.old) result (arrays_in self.new) }
+    {
+        let part = currency as usize - 1;
+        let cell = SECTION * part;
+        let cells = cell + SECTION;
+        let six = SHOCKED * part;
+        let sixes = six + SHOCKED;
+        let size = SCENARIOS * part;
+        let sums = size + SCENARIOS;
+        take_body(
+            kind,
+            currency,
+            has_curve(curved, currency),
+            body,
+            &mut self.ledger[cell..cells],
+            &mut self.rates[cell..cells],
+            &mut self.addons[six..sixes],
+            &mut self.sizes[size..sums],
+            &mut self.options[six..sixes],
+        )
+    }
 }

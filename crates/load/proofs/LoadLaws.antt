@@ -1,11 +1,11 @@
 -- What is loaded: the walk's end, and then 15 by the masks.
-use Prim.Native.Nat.{ℕ, suc, ◌≤◌, ◌<◌}
+use Prim.Native.Nat.{ℕ, suc}
 use mathlib.Core.List.{List}
 use mathlib.Core.Path.{◌≡◌, sym, ap, ◌∙◌}
 use native.Mathlib.Omega.{arith}
 use borrow.Author.Tests.{le-leb}
 use Rattle.std.specs.Prelude.{Some, None, Result, Ok, Err}
-use Rattle.laws.specs.Tests.{◌up_to◌, first}
+use Rattle.laws.specs.Tests.{first}
 use Rattle.paper.specs.declared.Refusal.TheVariants.{NoCurve}
 use Rattle.paper.specs.declared.Fault.{Fault}
 use Rattle.paper.specs.Refusals.{Checked, refused, ◌>>=◌, unless, fault}

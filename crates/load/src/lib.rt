@@ -3,27 +3,22 @@
 
 ghost use Rattle.std.specs.Prelude.{[], ◌≡◌};
 ghost use Rattle.arrays.specs.Arrays.{arrays_of};
-ghost use Rattle.arrays.specs.Lent.{lent, after};
+ghost use Rattle.lending.specs.Working.{arrays_in};
 ghost use Rattle.load.specs.Load.{Loads};
 
+use lending::Working;
 use paper::{Fault, Refusal};
 use walk::walk;
 
 mod walk;
 
 // Which currencies have a curve, as a mask, where all records are kept.
-pub fn load(
-    book: &[u8],
-    ledger: &mut [i64],
-    rates: &mut [i32],
-    addons: &mut [i64],
-    sizes: &mut [u64],
-    options: &mut [u64],
-) -> Result<u32, Fault>
-    requires { lent ledger rates addons sizes options ≡ arrays_of [] }
-    ensures { Loads book.now result (after ledger rates addons sizes options) }
+pub fn load(book: &[u8], working: &mut Working) -> Result<u32, Fault>
+    requires { arrays_in working.old ≡ arrays_of [] }
+    ensures same_ledger { working.new.ledger.ghost_name ≡ working.old.ledger.ghost_name }
+    ensures loads { Loads book.now result (arrays_in working.new) }
 {
-    let masks = walk(book, ledger, rates, addons, sizes, options)?;
+    let masks = walk(book, working)?;
     match masks.lowest_missing() {
         Some(missing) => Err(Fault {
             cause: Refusal::NoCurve,

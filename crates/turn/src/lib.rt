@@ -4,16 +4,16 @@
 
 ghost use Rattle.std.specs.Prelude.{◌≡◌, ◌+◌, length, Ok, Some};
 ghost use Rattle.paper.specs.Records.{body_length};
-ghost use Rattle.arrays.specs.Arrays.{Holding};
-ghost use Rattle.arrays.specs.Lent.{lent, before, after};
+ghost use Rattle.arrays.specs.Within.{Bare};
 ghost use Rattle.kinds.specs.Kind.{kind_number};
+ghost use Rattle.lending.specs.Working.{arrays_in};
 ghost use Rattle.reader.specs.Reader.{stands_at};
 ghost use Rattle.turn.specs.Step.{Addressed, StepsOver, Turns, fault_at};
 
 use arrays::masks::Masks;
 use fields::currency_at;
 use kinds::Kind;
-use lending::take_parts;
+use lending::Working;
 use paper::Fault;
 use reader::Found;
 
@@ -27,31 +27,13 @@ fn placed(fault: Fault, at: usize) -> Fault
 }
 
 // A whole body.
-fn take_body(
-    kind: Kind,
-    body: &[u8],
-    masks: Masks,
-    ledger: &mut [i64],
-    rates: &mut [i32],
-    addons: &mut [i64],
-    sizes: &mut [u64],
-    options: &mut [u64],
-) -> Result<Masks, Fault>
-    requires { (length body.now ≡ body_length (kind_number kind)) × Holding masks (lent ledger rates addons sizes options) }
-    ensures { StepsOver (kind_number kind) body.now masks (before ledger rates addons sizes options) result (after ledger rates addons sizes options) }
+fn take_body(kind: Kind, body: &[u8], masks: Masks, working: &mut Working) -> Result<Masks, Fault>
+    requires { (length body.now ≡ body_length (kind_number kind)) × Bare masks.curved working.old.rates }
+    ensures same_ledger { working.new.ledger.ghost_name ≡ working.old.ledger.ghost_name }
+    ensures steps { StepsOver (kind_number kind) body.now masks (arrays_in working.old) result (arrays_in working.new) }
 {
     let currency = currency_at(body, 0)?;
-    take_parts(
-        kind,
-        currency,
-        masks.curved,
-        body,
-        ledger,
-        rates,
-        addons,
-        sizes,
-        options,
-    )?;
+    working.take(kind, currency, masks.curved, body)?;
     if kind.is_curve() {
         return Ok(masks.with_curve(currency));
     }
@@ -63,19 +45,14 @@ pub fn take_record(
     found: Found,
     book: &[u8],
     masks: Masks,
-    ledger: &mut [i64],
-    rates: &mut [i32],
-    addons: &mut [i64],
-    sizes: &mut [u64],
-    options: &mut [u64],
+    working: &mut Working,
 ) -> Result<Masks, Fault>
-    requires { (Some (Ok found) ≡ stands_at book.now found.at) × Holding masks (lent ledger rates addons sizes options) }
-    ensures { Turns book.now found.at masks (before ledger rates addons sizes options) result (after ledger rates addons sizes options) }
+    requires { (Some (Ok found) ≡ stands_at book.now found.at) × Bare masks.curved working.old.rates }
+    ensures same_ledger { working.new.ledger.ghost_name ≡ working.old.ledger.ghost_name }
+    ensures turns { Turns book.now found.at masks (arrays_in working.old) result (arrays_in working.new) }
 {
     let body = &book[found.at + 1..found.next];
-    match take_body(
-        found.kind, body, masks, ledger, rates, addons, sizes, options,
-    ) {
+    match take_body(found.kind, body, masks, working) {
         Ok(masks) => Ok(masks),
         Err(fault) => Err(placed(fault, found.at)),
     }

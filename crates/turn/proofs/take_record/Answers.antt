@@ -1,8 +1,9 @@
 -- `take_record`: the body lies in the book, and a fault of it is told where the record begins.
 use native.Mathlib.Omega.{arith}
-use Rattle.arrays.specs.Arrays.{Arrays, arrays_as}
+use Rattle.arrays.specs.Arrays.{Arrays}
 use Rattle.kinds.specs.Kind.{kind_number}
 use Rattle.lending.specs.Records.{tested}
+use Rattle.lending.specs.Working.{arrays_in}
 use Rattle.reader.proofs.Places.{Whole, found-at}
 use Rattle.turn.proofs.TurnLaws.{InBook, in-book, body_in, refused-as, fault-inside, placed-taken, placed-refused, turn-record}
 use Rattle.turn.proofs.take_record.Goals as goal
@@ -18,7 +19,7 @@ module _ (s : Start) where
 
 -- the arrays as they were found
 abbrev found : Start → Arrays
-found s = arrays_as s.args.ledger.now s.args.rates.now s.args.addons.now s.args.sizes.now s.args.options.now
+found s = arrays_in s.args.working.now
 
 pub overflow_add-body : goal.overflow_add-body
 overflow_add-body c = let w = within (goal.at.overflow_add-body c).Start in record { fits = omega (arith, w.within) }
@@ -38,10 +39,10 @@ take_body-requires c = let w = within (goal.at.take_body-requires c).Start in (w
 pub placed-requires : goal.placed-requires
 placed-requires c =
     let s = (goal.at.placed-requires c).Start in
-    omega (arith, (within s).within, fault-inside (tested c.args.masks.curved (found s)) (kind_number c.args.found.kind) (body_in c.args.book.now c.args.found) c.in-Err.fault (refused-as _ c.in-Err.ensures.answered))
+    omega (arith, (within s).within, fault-inside (tested c.args.masks.curved (found s)) (kind_number c.args.found.kind) (body_in c.args.book.now c.args.found) c.in-Err.fault (refused-as _ c.in-Err.ensures.steps.answered))
 
-pub returns-in-Ok : goal.returns-in-Ok
-returns-in-Ok c = turn-record _ (whole (goal.at.returns-in-Ok c).Start) (placed-taken _ _ _ _ _ _ c.in-Ok.ensures)
+pub returns-in-Ok-clause-turns : goal.returns-in-Ok-clause-turns
+returns-in-Ok-clause-turns c = turn-record _ (whole (goal.at.returns-in-Ok-clause-turns c).Start) (placed-taken _ _ _ _ _ _ c.in-Ok.ensures.steps)
 
-pub returns-in-Err : goal.returns-in-Err
-returns-in-Err c = rw c.placed.ensures (turn-record _ (whole (goal.at.returns-in-Err c).Start) (placed-refused _ _ _ _ _ _ c.in-Err.ensures))
+pub returns-in-Err-clause-turns : goal.returns-in-Err-clause-turns
+returns-in-Err-clause-turns c = rw c.placed.ensures (turn-record _ (whole (goal.at.returns-in-Err-clause-turns c).Start) (placed-refused _ _ _ _ _ _ c.in-Err.ensures.steps))
