@@ -9,7 +9,7 @@ use Rattle.kinds.proofs.Bodies.{row-body, flow-parts, option-parts, rate-parts, 
 use Rattle.kinds.proofs.take_body.Goals as goal
 
 pub new-requires : goal.new-requires
-new-requires c = (omega arith, row-body (row-1 currencies (λ _. false)) c.in-1.is c.requires.body)
+new-requires c = (omega arith, row-body (row-1 currencies (λ _. false)) (ap kind_number c.in-Single.is) c.requires.body)
 
 pub take_single-requires : goal.take_single-requires
 take_single-requires c = record { flow_parts = flow-parts c.requires.parts_hold }
