@@ -1,14 +1,16 @@
 -- The kinds by number: each has its own, and there are no others.
-use Prim.Native.Nat.{ℕ}
+use Prim.Native.Nat.{ℕ, ◌+◌}
 use mathlib.Core.Bool.{Bool, true, false}
 use mathlib.Core.Path.{◌≡◌, refl}
 use native.Mathlib.Omega.{arith}
 use borrow.Author.Tests.{eqb-true, eqb-false, ne_eqb}
+use denote.Enum.Declared.{tag_of}
 use Rattle.laws.specs.Tests.{◌is◌, all}
 use Rattle.laws.proofs.Tests.{all-at}
 use Rattle.paper.specs.Records.{kinds, kind_count, body_length, curve_kind}
 use Rattle.paper.specs.TurnedDown.{unknown_kind}
 use Rattle.paper.proofs.KindTable.{known-kind}
+use Rattle.kinds.specs.contracts.kind.Kind.{the_type}
 use Rattle.kinds.specs.declared.kind.Kind.{Kind}
 use Rattle.kinds.specs.declared.kind.Kind.TheVariants.{Single, Coupons, Floating, Deposit, Loan, TermDeposit, OptionAddOn, Curve, FloatingSpread, ListedCurve}
 use Rattle.kinds.specs.Kind.{kind_number, kind_of}
@@ -60,3 +62,16 @@ unknown_curve number unknown = rw (other 8 refl, other 10 refl) refl
   where
     other : (n : ℕ) → (body_length n is 0) ≡ false → (number is n) ≡ false
     other n known = ne_eqb number n (λ e. let z : ◌≡◌ {A = Bool} true false = cc in let y : ◌≡◌ {A = ℕ} 0 1 = cc in omega arith)
+
+-- the number that the compiler gives
+pub tag-number : (kind : Kind) → tag_of the_type kind + 1 ≡ kind_number kind
+tag-number Single = refl
+tag-number Coupons = refl
+tag-number Floating = refl
+tag-number Deposit = refl
+tag-number Loan = refl
+tag-number TermDeposit = refl
+tag-number OptionAddOn = refl
+tag-number Curve = refl
+tag-number FloatingSpread = refl
+tag-number ListedCurve = refl

@@ -5,7 +5,7 @@ use mathlib.Core.List.{List, [], ◌∷◌, ◌++◌}
 use mathlib.Core.Path.{◌≡◌, refl, sym, ap, ◌∙◌}
 use native.Mathlib.Nat.{add-zero}
 use native.Mathlib.Omega.{arith}
-use borrow.Author.Tests.{eqb-true, eq-eqb, ne_eqb, ltb-true}
+use borrow.Author.Tests.{eqb-true, eqb-false, eq-eqb, ne_eqb, ltb-true}
 use lib.IntN.{ℤ, pos, ◌+ℤ◌, +ℤ_idr}
 use Rattle.std.specs.Prelude.{if◌then◌else◌}
 use Rattle.laws.specs.Tests.{◌is◌, ◌below◌, all}
@@ -13,11 +13,16 @@ use Rattle.laws.proofs.Tests.{all-at}
 use Rattle.laws.proofs.Totals.{total-more}
 use Rattle.laws.proofs.Lists.{tabulate-ext}
 use Rattle.paper.specs.Records.{currencies, kinds, kind_count, body_length}
+use Rattle.paper.specs.TurnedDown.{unknown_kind}
 use Rattle.paper.specs.Fields.{byte}
 use Rattle.paper.specs.Detail.{is_of, among}
+use Rattle.paper.proofs.KindTable.{known-kind}
 use Rattle.arrays.specs.Slots.{plus_ℤ}
 use Rattle.arrays.specs.Arrays.{by_currency, part_of, put_back}
 use Rattle.arrays.proofs.Parts.{part-more}
+use Rattle.kinds.specs.declared.kind.Kind.{Kind}
+use Rattle.kinds.specs.Kind.{kind_number}
+use Rattle.kinds.proofs.Numbers.{number-known}
 use Rattle.tally.specs.Counts.{counts_of}
 
 -- ---- the kinds
@@ -28,6 +33,10 @@ each_long = refl
 
 pub kind-long : (kind : ℕ) → 1 ≤ kind → kind ≤ kind_count → body_length kind ≡ 0 → ⊥
 kind-long kind l h e = omega (arith, ltb-true 0 (body_length kind) (all-at (λ k. 0 below body_length k) 1 kind_count each_long kind l (omega arith)), e)
+
+pub kind-of-ten : (kind : Kind) → (1 ≤ kind_number kind) × (kind_number kind ≤ kind_count)
+unfolding unknown_kind
+kind-of-ten kind = known-kind (kind_number kind) (eqb-false (body_length (kind_number kind)) 0 (number-known kind))
 
 -- ---- one record more
 

@@ -8,31 +8,32 @@ ghost use Rattle.paper.specs.TurnedDown.{longest_book};
 ghost use Rattle.paper.specs.Fields.{byte};
 ghost use Rattle.paper.specs.Detail.{places};
 ghost use Rattle.arrays.specs.Slots.{plus_ℤ};
+ghost use Rattle.kinds.specs.Kind.{kind_number};
 ghost use Rattle.tally.specs.Counts.{counts_of, Few};
 
-use kinds::body_length;
+use kinds::{Kind, body_length};
 use paper::{CURRENCIES, KINDS};
 
 pub const COUNTS: usize = KINDS * CURRENCIES;
 
 // One more of a kind, among the counts of a currency.
-fn count_kind(counts: &mut [i64], kind: u8)
-    requires le_kind { (1 ≤ kind) × (kind ≤ kind_count) × (length counts.old ≡ kind_count) }
+fn count_kind(counts: &mut [i64], kind: Kind)
+    requires ten { length counts.old ≡ kind_count }
     requires few { Few counts.old }
-    ensures { counts.new ≡ plus_ℤ counts.old (λ j. if j is (kind - 1) then pos 1 else pos 0) }
+    ensures { counts.new ≡ plus_ℤ counts.old (λ j. if j is (kind_number kind - 1) then pos 1 else pos 0) }
 {
     let k = kind as usize - 1;
     counts[k] += 1;
 }
 
 // One more of a kind in a currency. One of no kind or no currency is not counted; an accepted book has none.
-fn count_record(kind: u8, currency: u8, counts: &mut [i64])
+fn count_record(number: u8, currency: u8, counts: &mut [i64])
     requires { (length counts.old ≡ kind_count * currencies) × Few counts.old }
-    ensures { (book ps : List ℕ) (at : ℕ) → byte book at ≡ kind → byte book (suc at) ≡ currency → counts.old ≡ counts_of book ps → counts.new ≡ counts_of book (ps ++ (at ∷ [])) }
+    ensures { (book ps : List ℕ) (at : ℕ) → byte book at ≡ number → byte book (suc at) ≡ currency → counts.old ≡ counts_of book ps → counts.new ≡ counts_of book (ps ++ (at ∷ [])) }
 {
-    if body_length(kind) == 0 {
+    let Ok(kind) = Kind::try_from(number) else {
         return;
-    }
+    };
     if currency == 0 {
         return;
     }
