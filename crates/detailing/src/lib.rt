@@ -1,12 +1,15 @@
 // What the detail program prints for its input: the report's lines, then what stands behind them. Everything of it but the reading and the writing.
 #![tactic(auto)]
 
-ghost use Rattle.std.specs.Prelude.{List, ◌++◌, ◌≡◌, ◌≤◌, length, drop};
+ghost use Rattle.std.specs.Prelude.{List, ◌*◌, ◌++◌, ◌≡◌, ◌≤◌, length, drop};
 ghost use Rattle.paper.specs.Refusals.{accepted};
-ghost use Rattle.paper.specs.Records.{Record, currencies};
+ghost use Rattle.paper.specs.Records.{Record, currencies, kind_count};
 ghost use Rattle.paper.specs.TurnedDown.{longest_book};
 ghost use Rattle.paper.specs.Detail.{detailed};
+ghost use Rattle.arrays.specs.Masks.{curved_by};
+ghost use Rattle.arrays.specs.Rooms.{totals_by};
 ghost use Rattle.text.specs.Pages.{HasRoom, Adds};
+ghost use Rattle.valuation.specs.Bounds.{Bounds};
 ghost use Rattle.load.specs.Load.{of_records};
 ghost use Rattle.detail.specs.Behind.{longest_behind};
 ghost use Rattle.detailing.specs.Detailed.{behind_kept, longest_detail};
@@ -14,8 +17,9 @@ ghost use Rattle.detailing.specs.Detailed.{behind_kept, longest_detail};
 use detail::LONGEST_BEHIND;
 use detail::behind::Behind;
 use detail::standing::Standing;
+use lending::Working;
 use load::load;
-use paper::{CELLS, CHANGES, CURRENCIES, FIGURES, SCENARIOS, SHOCKED};
+use paper::{CELLS, CHANGES, FIGURES, SHOCKED};
 use printing::{CAPITAL, answer, capital_in, print_refusal};
 use scales::Thousands;
 use tally::{COUNTS, tally};
@@ -27,6 +31,21 @@ pub const LONGEST_DETAIL: usize = LONGEST_TEXT + LONGEST_BEHIND;
 // Where the measure stands in the report.
 const MEASURE: usize = CHANGES + SHOCKED;
 
+fn behind_of<'a>(working: &'a Working, counts: &'a [i64], curved: u32) -> Behind<'a>
+    requires counts_len { length counts.now ≡ kind_count * currencies }
+    requires bounds { Bounds (totals_by working.now.ledger.now working.now.addons working.now.rates) (curved_by curved) }
+    ensures arrays { (result.ledger.now ≡ working.now.ledger.now) × (result.rates.now ≡ working.now.rates) × (result.add_ons.now ≡ working.now.addons) }
+    ensures counts { (result.counts.now ≡ counts.now) × (result.curved ≡ curved) }
+{
+    Behind {
+        ledger: working.ledger,
+        rates: &working.rates,
+        add_ons: &working.addons,
+        counts,
+        curved,
+    }
+}
+
 // The book is walked once more, for a report and its ledger keep neither the rates nor the add-ons: nothing is lent for them where nobody asks.
 fn put_behind(book: &[u8], standing: &Standing, page: &mut Page<'_>)
     requires book_len_bound { length book.now ≤ longest_book }
@@ -34,30 +53,13 @@ fn put_behind(book: &[u8], standing: &Standing, page: &mut Page<'_>)
     ensures { (kept : List Record) → of_records book.now ≡ accepted kept → Adds (behind_kept book.now kept standing.now.measure.0 standing.now.tier1.0) page.old page.new × (length (behind_kept book.now kept standing.now.measure.0 standing.now.tier1.0) ≤ longest_behind) }
 {
     let mut ledger = [0i64; CELLS];
-    let mut rates = [0i32; CELLS];
-    let mut addons = [0i64; CHANGES];
-    let mut sizes = [0u64; SCENARIOS * CURRENCIES];
-    let mut options = [0u64; CHANGES];
     let mut counts = [0i64; COUNTS];
-    match load(
-        book,
-        &mut ledger,
-        &mut rates,
-        &mut addons,
-        &mut sizes,
-        &mut options,
-    ) {
+    let mut working = Working::new(&mut ledger);
+    match load(book, &mut working) {
         Err(_) => {}
         Ok(curved) => {
             let count = tally(book, &mut counts);
-            let behind = Behind {
-                ledger: &ledger,
-                rates: &rates,
-                add_ons: &addons,
-                counts: &counts,
-                curved,
-            };
-            behind.put(page, count, standing);
+            behind_of(&working, &counts, curved).put(page, count, standing);
         }
     }
 }
