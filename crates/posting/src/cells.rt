@@ -76,8 +76,8 @@ fn add_cells(cells: &mut [i64], flows: &[i64])
 }
 
 // The same row in every scenario. Its signs are set once, in an array of this function's own: no cell lies in it, so the compiler adds two at a time.
-pub fn add_row(section: &mut [i64], side: u32, row: &[u64])
-    requires section_len { (length section.old ≡ section_size) × (length row.now ≡ buckets) }
+pub fn add_row(section: &mut [i64], side: u32, row: &[u64; BUCKETS])
+    requires section_len { length section.old ≡ section_size }
     requires fact { AtMostℤ trillion section.old }
     requires at_most { AtMost trillion row.now }
     ensures { section.new ≡ plus_ℤ section.old (λ j. sided side (pos (get_or row.now (j % buckets) 0))) }
@@ -91,8 +91,8 @@ pub fn add_row(section: &mut [i64], side: u32, row: &[u64])
 }
 
 // Rows of nineteen flows: each scenario has the row that the table names, signed first for the same reason.
-pub fn add_rows(section: &mut [i64], side: u32, rows: &[u64], which: &[usize])
-    requires section_len { (length section.old ≡ section_size) × (length which.now ≡ scenarios) }
+pub fn add_rows(section: &mut [i64], side: u32, rows: &[u64], which: &[usize; SCENARIOS])
+    requires section_len { length section.old ≡ section_size }
     requires fact { AtMostℤ trillion section.old }
     requires at_most { AtMost trillion rows.now }
     requires by_index { (i : ℕ) → i < scenarios → buckets * get_or which.now i 0 + buckets ≤ length rows.now }

@@ -7,24 +7,25 @@ ghost use Rattle.posting.specs.Parts.{AtMost, FlowParts, RowParts, Enters, row_f
 
 use crate::cells::{add_row, add_rows};
 use crate::room::admit;
-use paper::{Fault, SCENARIOS};
+use paper::{BUCKETS, Fault, SCENARIOS};
 use scales::Thousands;
 
 // The sum of the row that each scenario has.
-fn scenario_sums(sums: &[u64], which: &[usize], more: &mut [u64])
-    requires which_len { (length which.now ≡ scenarios) × (length more.old ≡ scenarios) }
+fn scenario_sums(sums: &[u64], which: &[usize; SCENARIOS]) -> [u64; SCENARIOS]
     requires by_index { (i : ℕ) → i < scenarios → get_or which.now i 0 < length sums.now }
-    ensures { more.new ≡ tabulate (row_sum sums.now which.now) scenarios }
+    ensures { result ≡ tabulate (row_sum sums.now which.now) scenarios }
 {
-    for i in 0..SCENARIOS {
-        more[i] = sums[which[i]];
+    let mut more = [0u64; SCENARIOS];
+    for (i, row) in which.iter().enumerate() {
+        more[i] = sums[*row];
     }
+    more
 }
 
 // The rows one after another, the row that each scenario has, and the sum of each row.
 pub fn enter_rows(
     rows: &[u64],
-    which: &[usize],
+    which: &[usize; SCENARIOS],
     side: u32,
     sums: &[u64],
     section: &mut [i64],
@@ -34,22 +35,20 @@ pub fn enter_rows(
     requires flow_parts { FlowParts section.old sizes.old }
     ensures { Enters (row_flow rows.now which.now) side (row_sum sums.now which.now) section sizes result }
 {
-    let mut more = [0u64; SCENARIOS];
-    scenario_sums(sums, which, &mut more);
-    admit(sizes, &more)?;
+    admit(sizes, &scenario_sums(sums, which))?;
     add_rows(section, side, rows, which);
     Ok(())
 }
 
 // The same nineteen flows in every scenario.
 pub fn enter_row(
-    row: &[u64],
+    row: &[u64; BUCKETS],
     side: u32,
     size: Thousands,
     section: &mut [i64],
     sizes: &mut [u64],
 ) -> Result<(), Fault>
-    requires row_len { (length row.now ≡ buckets) × AtMost trillion row.now × (size.0 ≤ trillion) }
+    requires row_small { AtMost trillion row.now × (size.0 ≤ trillion) }
     requires flow_parts { FlowParts section.old sizes.old }
     ensures { Enters (λ j. get_or row.now (j % buckets) 0) side (λ i. size.0) section sizes result }
 {

@@ -17,7 +17,7 @@ add_cells-requires c =
     let at = c.loop-i in
     let signed = c.sided_row-flows.ensures in
     let count : 19 * at.i + 19 - 19 * at.i ≡ 19 = omega arith in
-    let w = (row_fits c.args.side c.args.row.now signed at.i (omega (arith, c.requires.section_len.0)) at.invariant c.requires.fact c.requires.at_most) in record { flows_len = rw count w.0; fact = rw count w.1.0; fact_2 = w.1.1 }
+    let w = (row_fits c.args.side c.args.row.now signed at.i (omega (arith, c.requires.section_len)) at.invariant c.requires.fact c.requires.at_most) in record { flows_len = rw count w.0; fact = rw count w.1.0; fact_2 = w.1.1 }
 
 pub loop-i-preserved : goal.loop-i-preserved
 loop-i-preserved c =
@@ -26,9 +26,9 @@ loop-i-preserved c =
     let row = c.args.row.now in
     let signed = c.sided_row-flows.ensures in
     let count : 19 * at.i + 19 - 19 * at.i ≡ 19 = omega arith in
-    let next = row-added side row signed at.i (omega (arith, c.requires.section_len.0)) at.invariant (rw count at c.add_cells.ensures)
+    let next = row-added side row signed at.i (omega (arith, c.requires.section_len)) at.invariant (rw count at c.add_cells.ensures)
     (λ k l. let bucket : k ≡ (19 * at.i + k) % 19 = omega arith in ap (λ (j : ℕ). sided side (pos (get_or row j 0))) bucket) in
     rw count next
 
 pub returns : goal.returns
-returns c = joining-done +ℤ_idr c.loop-i.invariant (omega (arith, c.requires.section_len.0))
+returns c = joining-done +ℤ_idr c.loop-i.invariant (omega (arith, c.requires.section_len))

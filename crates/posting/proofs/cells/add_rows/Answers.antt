@@ -47,7 +47,7 @@ add_cells-requires c =
     let small = own-small c.args.rows.now c.args.which.now at.i c.requires.at_most in
     let signed = c.sided_row-flows.ensures in
     let count : 19 * at.i + 19 - 19 * at.i ≡ 19 = omega arith in
-    let w = (row_fits c.args.side row signed at.i (omega (arith, c.requires.section_len.0)) at.invariant c.requires.fact small) in record { flows_len = rw count w.0; fact = rw count w.1.0; fact_2 = w.1.1 }
+    let w = (row_fits c.args.side row signed at.i (omega (arith, c.requires.section_len)) at.invariant c.requires.fact small) in record { flows_len = rw count w.0; fact = rw count w.1.0; fact_2 = w.1.1 }
 
 pub loop-i-preserved : goal.loop-i-preserved
 loop-i-preserved c =
@@ -55,10 +55,10 @@ loop-i-preserved c =
     let row = own c.args.rows.now c.args.which.now at.i in
     let signed = c.sided_row-flows.ensures in
     let count : 19 * at.i + 19 - 19 * at.i ≡ 19 = omega arith in
-    let next = row-added c.args.side row signed at.i (omega (arith, c.requires.section_len.0)) at.invariant (rw count at c.add_cells.ensures)
+    let next = row-added c.args.side row signed at.i (omega (arith, c.requires.section_len)) at.invariant (rw count at c.add_cells.ensures)
     (λ k l. ap (λ (n : ℕ). sided c.args.side (pos n)) (own-flow c.args.rows.now c.args.which.now at.i k l)) in
     rw count next
 
 pub returns : goal.returns
 returns c =
-    joining-done +ℤ_idr c.loop-i.invariant (omega (arith, c.requires.section_len.0))
+    joining-done +ℤ_idr c.loop-i.invariant (omega (arith, c.requires.section_len))
