@@ -50,31 +50,33 @@ fn due_by(end: u32, start: u32, share: u32, count: u32) -> u32
 }
 
 // So many coupons are due by the end of each bucket.
-fn due_by_ends(start: u32, share: u32, count: u32, by: &mut [u32])
-    requires { (length by.old ≡ buckets) × (share ≤ 65536) }
-    ensures { by.new ≡ tabulate (λ k. min count ((get_or month_ends k 0 - start) * share / 65536)) buckets }
+fn due_by_ends(start: u32, share: u32, count: u32) -> [u32; BUCKETS]
+    requires { share ≤ 65536 }
+    ensures { result ≡ tabulate (λ k. min count ((get_or month_ends k 0 - start) * share / 65536)) buckets }
 {
     let ends = MONTH_ENDS;
+    let mut by = [0u32; BUCKETS];
     for k in 0..BUCKETS {
         by[k] = due_by(ends[k], start, share, count);
     }
+    by
 }
 
 // Two passes, in which no bucket waits for the one before: the compiler writes both out, with the ends as numbers.
-fn coupon_row(coupons: Schedule, row: &mut [u64])
+fn coupon_row(coupons: Schedule) -> [u64; BUCKETS]
     requires regular { Regular coupons }
-    requires row_len { length row.old ≡ buckets }
-    ensures { row.new ≡ tabulate (coupons_due (start_of coupons) coupons.period coupons.count coupons.coupon.0) buckets }
+    ensures { result ≡ tabulate (coupons_due (start_of coupons) coupons.period coupons.count coupons.coupon.0) buckets }
 {
     let start = month_seen(coupons.months, coupons.days);
     let share = period_share(coupons.period);
-    let mut by = [0u32; BUCKETS];
-    due_by_ends(start, share, coupons.count, &mut by);
+    let by = due_by_ends(start, share, coupons.count);
     let each = coupons.coupon.0;
+    let mut row = [0u64; BUCKETS];
     row[0] = (by[0] as u64) * each;
     for k in 1..BUCKETS {
         row[k] = ((by[k] - by[k - 1]) as u64) * each;
     }
+    row
 }
 
 pub fn slot_schedule(
@@ -91,8 +93,7 @@ pub fn slot_schedule(
     ensures { Enters (λ j. scheduled coupons (record { months = months; days = days }) amount.0 (j % buckets)) side (λ i. coupons.count * coupons.coupon.0 + amount.0) section sizes result }
 {
     let size = Thousands((coupons.count as u64) * coupons.coupon.0 + amount.0);
-    let mut row = [0u64; BUCKETS];
-    coupon_row(coupons, &mut row);
+    let mut row = coupon_row(coupons);
     let bucket = bucket_of(months, days) - 1;
     row[bucket] += amount.0;
     enter_row(&row, side, size, section, sizes)

@@ -9,7 +9,7 @@ use Rattle.due.proofs.schedule.due_by_ends.Goals as goal
 
 pub due_by-requires : goal.due_by-requires
 unfolding month_ends
-due_by-requires c = (end-most c.loop-k.k (omega arith), c.requires.1)
+due_by-requires c = (end-most c.loop-k.k (omega arith), c.requires)
 
 pub loop-k-preserved : goal.loop-k-preserved
 unfolding month_ends

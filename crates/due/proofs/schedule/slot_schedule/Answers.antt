@@ -8,7 +8,7 @@ use Rattle.laws.specs.Lists.{tabulate}
 use Rattle.paper.specs.Ladder.{buckets, Term}
 use Rattle.paper.specs.Flow.{coupons_due}
 use Rattle.posting.specs.Parts.{trillion}
-use Rattle.posting.proofs.Loops.{row-long, row_small, row_at}
+use Rattle.posting.proofs.Loops.{row_small, row_at}
 use Rattle.posting.proofs.Admission.{row-entered}
 use Rattle.due.specs.declared.schedule.Schedule.{Schedule}
 use Rattle.due.specs.Schedules.{start_of, scheduled}
@@ -31,10 +31,10 @@ module _ (b : After-bucket_of-bucket) where
   }
 
   abbrev row : List ℕ
-  row = b.coupon_row.new.row
+  row = b.coupon_row-row.result
 
   whole : set row (b.bucket_of-bucket.result - 1) (get_or row (b.bucket_of-bucket.result - 1) 0 + amount) ≡ tabulate (scheduled coupons term amount) buckets
-  whole = amount-row _ row term b.bucket_of-bucket.result amount b.coupon_row.ensures b.bucket_of-bucket.ensures.value
+  whole = amount-row _ row term b.bucket_of-bucket.result amount b.coupon_row-row.ensures b.bucket_of-bucket.ensures.value
 
   small : coupons.count * coupons.coupon.0 + amount ≤ trillion
   small =
@@ -49,14 +49,13 @@ overflow_add-size c = record { fits = omega (arith, coupons-most c.args.coupons 
 pub overflow_add-row : goal.overflow_add-row
 overflow_add-row c =
     let k = c.bucket_of-bucket.result - 1 in
-    let here = row_at (coupons_due (start_of (coupons (goal.at.overflow_add-row c).After-bucket_of-bucket)) (coupons (goal.at.overflow_add-row c).After-bucket_of-bucket).period (coupons (goal.at.overflow_add-row c).After-bucket_of-bucket).count (coupons (goal.at.overflow_add-row c).After-bucket_of-bucket).coupon.0) buckets c.coupon_row.ensures k (omega arith) in
+    let here = row_at (coupons_due (start_of (coupons (goal.at.overflow_add-row c).After-bucket_of-bucket)) (coupons (goal.at.overflow_add-row c).After-bucket_of-bucket).period (coupons (goal.at.overflow_add-row c).After-bucket_of-bucket).count (coupons (goal.at.overflow_add-row c).After-bucket_of-bucket).coupon.0) buckets c.coupon_row-row.ensures k (omega arith) in
     record { fits = omega (arith, here, coupons-small (coupons (goal.at.overflow_add-row c).After-bucket_of-bucket) k (omega arith), small (goal.at.overflow_add-row c).After-bucket_of-bucket) }
 
 pub enter_row-requires : goal.enter_row-requires
 enter_row-requires c =
     let rule = scheduled (coupons (goal.at.enter_row-requires c).After-bucket_of-bucket) (term (goal.at.enter_row-requires c).After-bucket_of-bucket) (amount (goal.at.enter_row-requires c).After-bucket_of-bucket) in record {
-      row_len = (
-        row-long rule buckets (whole (goal.at.enter_row-requires c).After-bucket_of-bucket),
+      row_small = (
         row_small rule buckets trillion (whole (goal.at.enter_row-requires c).After-bucket_of-bucket) (λ k l. omega (arith, scheduled-small (coupons (goal.at.enter_row-requires c).After-bucket_of-bucket) (term (goal.at.enter_row-requires c).After-bucket_of-bucket) (amount (goal.at.enter_row-requires c).After-bucket_of-bucket) k l, small (goal.at.enter_row-requires c).After-bucket_of-bucket)),
         small (goal.at.enter_row-requires c).After-bucket_of-bucket,
       );
