@@ -10,7 +10,7 @@ ghost use Rattle.behaviour.specs.Columns.{CoursesReached, rates};
 
 use crate::amounts::{amount_of, sum_from};
 use crate::course::{Course, Scheduled};
-use crate::rates::rates_of;
+use crate::rates::{RATES, ROWS, rates_of};
 use ladder::widths;
 use paper::BUCKETS;
 use scales::Thousands;
@@ -21,12 +21,12 @@ fn loan_column(
     width: u64,
     remaining: Thousands,
     k: usize,
-    courses: &mut [Course],
-    rows: &mut [u64],
+    courses: &mut [Course; RATES],
+    rows: &mut [u64; ROWS],
 )
     requires body_len { (length body.now ≡ 155) × (k < buckets) × (width ≡ Ladder.width k) }
     requires remaining_value { (remaining.0 ≡ scheduled_at (amounts_from body.now 3) k) × SoundSchedule (amounts_from body.now 3) (amounts_from body.now 79) }
-    requires rates { (length courses.old ≡ 3) × AtMost whole_rate (rates courses.old) }
+    requires rates { AtMost whole_rate (rates courses.old) }
     requires reached { CoursesReached body.now (λ _. k) courses.old rows.old }
     ensures same_rates { rates courses.new ≡ rates courses.old }
     ensures reached { CoursesReached body.now (λ _. k + 1) courses.new rows.new }
@@ -44,8 +44,8 @@ fn loan_column(
 }
 
 // The rows of the three rates, and the sum of each.
-pub fn loan_rows(body: &[u8], share: u32, rows: &mut [u64], sums: &mut [u64])
-    requires body_len { (length body.now ≡ 155) × (share ≤ 10000) × (length rows.old ≡ buckets * 3) × (length sums.old ≡ 3) }
+pub fn loan_rows(body: &[u8], share: u32, rows: &mut [u64; ROWS], sums: &mut [u64; RATES])
+    requires body_len { (length body.now ≡ 155) × (share ≤ 10000) }
     requires sound_schedule { SoundSchedule (amounts_from body.now 3) (amounts_from body.now 79) }
     ensures rows_after { rows.new ≡ loan_rows share body.now }
     ensures sums_after { sums.new ≡ loan_sums share body.now }

@@ -11,7 +11,7 @@ ghost use Rattle.behaviour.specs.Rows.{term_deposit_rows};
 ghost use Rattle.behaviour.specs.Columns.{DepositReached};
 
 use crate::amounts::amount_of;
-use crate::rates::{RATES, rates_of};
+use crate::rates::{RATES, ROWS, rates_of};
 use paper::BUCKETS;
 use scales::Thousands;
 
@@ -23,8 +23,14 @@ fn moved(rate: u64, amount: Thousands) -> Thousands
 }
 
 // One bucket at each of the three rates: what stays in it, and what moves added to all that moved before.
-fn withdrawn_column(body: &[u8], rates: &[u64], k: usize, rows: &mut [u64], early: &mut [u64])
-    requires body_len { (length body.now ≡ 79) × (k < buckets) × (length rates.now ≡ 3) × AtMost whole_rate rates.now }
+fn withdrawn_column(
+    body: &[u8],
+    rates: &[u64; RATES],
+    k: usize,
+    rows: &mut [u64; ROWS],
+    early: &mut [u64; RATES],
+)
+    requires body_len { (length body.now ≡ 79) × (k < buckets) × AtMost whole_rate rates.now }
     requires at_most { AtMost billion (amounts_from body.now 3) }
     requires deposit_reached { DepositReached rates.now body.now (λ _. k) rows.old early.old }
     ensures { DepositReached rates.now body.now (λ _. k + 1) rows.new early.new }
@@ -39,8 +45,7 @@ fn withdrawn_column(body: &[u8], rates: &[u64], k: usize, rows: &mut [u64], earl
 }
 
 // A number for each rate, added to its bucket 1.
-fn raise_first(rows: &mut [u64], early: &[u64])
-    requires rows_len { (length rows.old ≡ buckets * 3) × (length early.now ≡ 3) }
+fn raise_first(rows: &mut [u64; ROWS], early: &[u64; RATES])
     requires at_most { AtMost trillion rows.old }
     requires at_most_2 { AtMost trillion early.now }
     ensures { rows.new ≡ joined ◌+◌ 0 rows.old (λ j. if j % buckets is 0 then get_or early.now (j / buckets) 0 else 0) }
@@ -52,15 +57,17 @@ fn raise_first(rows: &mut [u64], early: &[u64])
 }
 
 // The rows of the three rates.
-pub fn withdrawn_rows(body: &[u8], share: u32, rows: &mut [u64])
-    requires body_len { (length body.now ≡ 79) × (share ≤ 10000) × (length rows.old ≡ buckets * 3) }
+pub fn withdrawn_rows(body: &[u8], share: u32) -> [u64; ROWS]
+    requires body_len { (length body.now ≡ 79) × (share ≤ 10000) }
     requires at_most { AtMost billion (amounts_from body.now 3) }
-    ensures { rows.new ≡ term_deposit_rows share body.now }
+    ensures { result ≡ term_deposit_rows share body.now }
 {
     let rates = rates_of(share);
+    let mut rows = [0u64; ROWS];
     let mut early = [0u64; RATES];
     for k in 0..BUCKETS {
-        withdrawn_column(body, &rates, k, rows, &mut early);
+        withdrawn_column(body, &rates, k, &mut rows, &mut early);
     }
-    raise_first(rows, &early);
+    raise_first(&mut rows, &early);
+    rows
 }

@@ -5,7 +5,7 @@ ghost use Rattle.posting.specs.Parts.{FlowParts};
 ghost use Rattle.posting.specs.Answers.{TakesFlows};
 
 use behaviour::deposit::core_row;
-use paper::{BUCKETS, Fault};
+use paper::Fault;
 use posting::flows::enter_row;
 use record::body::Body;
 use record::deposit::decode_deposit;
@@ -15,7 +15,6 @@ pub fn take_deposit(body: Body<'_, 82>, section: &mut [i64], sizes: &mut [u64]) 
     ensures { TakesFlows (decode_deposit currencies body.entry.bytes.now) section sizes result }
 {
     let deposit = decode_deposit(body)?;
-    let mut row = [0u64; BUCKETS];
-    core_row(body.bytes, deposit.total, &mut row);
+    let row = core_row(body.bytes, deposit.total);
     enter_row(&row, 2, deposit.total, section, sizes)
 }

@@ -5,7 +5,7 @@ ghost use Rattle.posting.specs.Parts.{FlowParts};
 ghost use Rattle.posting.specs.Answers.{TakesFlows};
 
 use behaviour::amounts::row_sum;
-use behaviour::rates::{RATES, ROWS};
+use behaviour::rates::RATES;
 use behaviour::term_deposit::withdrawn_rows;
 use paper::{BUCKETS, Fault};
 use posting::flows::enter_rows;
@@ -23,8 +23,7 @@ pub fn take_term_deposit(
     let deposit = decode_term_deposit(body)?;
     // Which of the three rates each scenario has (001, table 6).
     let which = [0usize, 2, 1, 1, 2, 2, 1];
-    let mut rows = [0u64; ROWS];
-    withdrawn_rows(body.bytes, deposit.share, &mut rows);
+    let rows = withdrawn_rows(body.bytes, deposit.share);
     let sums = [row_sum(&rows[0..BUCKETS]).0; RATES];
     enter_rows(&rows, &which, 2, &sums, section, sizes)
 }

@@ -77,7 +77,7 @@ pass-requires c =
     let here = (goal.at.pass-requires c).In-loop-i in
     let schedule = c.requires.remaining_value.1 in
     let all = loan-sum (rate here) (amounts_from c.args.body.now 3) (amounts_from c.args.body.now 79) c.args.k (omega arith) (amounts-few c.args.body.now 79) in
-    (omega (arith, rate-is here, c.requires.rates.1 c.loop-i.i), (balance-within _ _ _ (before here)).0, omega (arith, sum-is here, all, schedule.all_small))
+    (omega (arith, rate-is here, c.requires.rates c.loop-i.i), (balance-within _ _ _ (before here)).0, omega (arith, sum-is here, all, schedule.all_small))
 
 pub loop-i-preserved : goal.loop-i-preserved
 loop-i-preserved c =

@@ -72,7 +72,7 @@ loop-k-init c =
     record {
       at_rates = ap rates (made) ∙ rates-start all c.rates_of.result ∙ c.rates_of.ensures;
       reached = record {
-        flows = columns-none c.requires.body_len.2;
+        flows = columns-none (omega arith);
         added = rw (made, sums-start all c.rates_of.result, three) (kept-none 0 (λ r. refl));
         left = rw (made, balances-start all c.rates_of.result, three) (kept-none all.0 (λ r. sym c.sum_from-remaining.ensures.0));
       };
@@ -81,7 +81,7 @@ loop-k-init c =
 
 pub loan_column-requires-clause-rates : goal.loan_column-requires-clause-rates
 loan_column-requires-clause-rates c =
-    (omega arith, row_small (behavioural_rate three_multipliers c.args.share) 3 whole_rate c.loop-k.invariant.at_rates (λ r _. rate-at-most three_multipliers c.args.share r))
+    row_small (behavioural_rate three_multipliers c.args.share) 3 whole_rate c.loop-k.invariant.at_rates (λ r _. rate-at-most three_multipliers c.args.share r)
 
 pub overflow_sub-remaining : goal.overflow_sub-remaining
 overflow_sub-remaining c = (rest-is (amounts_from c.args.body.now 3) c.loop-k.k c.amount_of.ensures.0 c.loop-k.invariant.left).0
@@ -94,7 +94,7 @@ loop-k-preserved c = record {
 }
 
 pub loop-i-preserved : goal.loop-i-preserved
-loop-i-preserved c = filled_next 0 _ c.loop-i.sums c.loop-i.i _ c.loop-i.invariant (sym (get_or-map (λ (x : Course). x.sum.0) c.loop-k.courses c.loop-i.i _)) (omega arith)
+loop-i-preserved c = (search rules, filled_next 0 _ c.loop-i.sums c.loop-i.i _ c.loop-i.invariant.1 (sym (get_or-map (λ (x : Course). x.sum.0) c.loop-k.courses c.loop-i.i _)) (omega arith))
 
 -- one of the three rates
 pub returns : goal.returns
@@ -108,6 +108,6 @@ returns c =
     record {
       rows_after = columns-all reached.flows ∙ tabulate-ext _ _ 57 (λ j o. ap (λ (rate : ℕ). flow rate (j % 19)) (rate-at (j / 19) (omega arith)));
       sums_after =
-          tabulate-is 0 c.loop-i.sums _ 3 (omega (arith, c.requires.body_len.3))
-          (λ r o. c.loop-i.invariant r (omega arith) ∙ reached.added.at r o ∙ ap (λ (rate : ℕ). sum (flow rate) 19) (rate-at r o));
+          tabulate-is 0 c.loop-i.sums _ 3 c.loop-i.invariant.0
+          (λ r o. c.loop-i.invariant.1 r (omega arith) ∙ reached.added.at r o ∙ ap (λ (rate : ℕ). sum (flow rate) 19) (rate-at r o));
     }

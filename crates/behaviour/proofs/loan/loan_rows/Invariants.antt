@@ -1,6 +1,6 @@
 -- What the loops of `loan_rows` keep: the courses at the buckets passed, and then the sums written.
 use mathlib.Core.Path.{◌≡◌}
-use lib.ListN.{get_or}
+use lib.ListN.{length, get_or}
 use Rattle.laws.specs.Lists.{tabulate}
 use Rattle.laws.proofs.Filling.{Filled}
 use Rattle.paper.specs.Behaviour.{behavioural_rate, scheduled_at}
@@ -17,4 +17,4 @@ invariant-loop-k l = record {
 }
 
 abbrev pub invariant-loop-i : goal.invariant-loop-i
-invariant-loop-i l = Filled 0 l.i (λ r. get_or (sums l.course-items) r 0) l.sums
+invariant-loop-i l = (length l.sums ≡ 3) × Filled 0 l.i (λ r. get_or (sums l.course-items) r 0) l.sums

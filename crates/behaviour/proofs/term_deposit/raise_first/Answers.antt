@@ -23,22 +23,22 @@ first-elsewhere early i j from to other =
 
 pub overflow_add-rows : goal.overflow_add-rows
 overflow_add-rows c =
-    let same = joining-rest add-zero c.loop-i.invariant (19 * c.loop-i.i) (omega arith) (omega (arith, c.requires.rows_len.0)) in
+    let same = joining-rest add-zero c.loop-i.invariant (19 * c.loop-i.i) (omega arith) (omega arith) in
     record { fits = omega (arith, same, c.requires.at_most (19 * c.loop-i.i), c.requires.at_most_2 c.loop-i.i) }
 
 pub loop-i-preserved : goal.loop-i-preserved
 loop-i-preserved c =
-    joining-more add-zero c.loop-i.invariant (19 * (c.loop-i.i + 1)) (19 * c.loop-i.i) (first-here c.args.early.now c.loop-i.i) (omega arith) (omega arith) (omega (arith, c.requires.rows_len.0))
+    joining-more add-zero c.loop-i.invariant (19 * (c.loop-i.i + 1)) (19 * c.loop-i.i) (first-here c.args.early.now c.loop-i.i) (omega arith) (omega arith) (omega arith)
     (first-elsewhere c.args.early.now c.loop-i.i)
 
 pub loop-i-init : goal.loop-i-init
 loop-i-init c = joining-none add-zero _ _
 
 pub bounds-rows-at : goal.bounds-rows-at
-bounds-rows-at c = omega (arith, joining-long add-zero c.loop-i.invariant, c.requires.rows_len.0)
+bounds-rows-at c = omega (arith, joining-long add-zero c.loop-i.invariant)
 
 pub bounds-rows-at-in-loop-i : goal.bounds-rows-at-in-loop-i
-bounds-rows-at-in-loop-i c = omega (arith, joining-long add-zero c.loop-i.invariant, c.requires.rows_len.0)
+bounds-rows-at-in-loop-i c = omega (arith, joining-long add-zero c.loop-i.invariant)
 
 pub returns : goal.returns
-returns c = joining-done add-zero c.loop-i.invariant (omega (arith, c.requires.rows_len.0))
+returns c = joining-done add-zero c.loop-i.invariant (omega arith)

@@ -24,7 +24,7 @@ loop-i-init c =
     record { stays = columns-to none c.requires.deposit_reached.stays; moves = kept-to none c.requires.deposit_reached.moves }
 
 pub moved-part-requires : goal.moved-part-requires
-moved-part-requires c = (c.requires.body_len.3 c.loop-i.i, c.amount_of-amount.ensures.1)
+moved-part-requires c = (c.requires.body_len.2 c.loop-i.i, c.amount_of-amount.ensures.1)
 
 pub overflow_sub-rows : goal.overflow_sub-rows
 overflow_sub-rows c = c.moved-part.ensures.1
@@ -38,7 +38,7 @@ overflow_add-early c =
     let amounts = amounts_from c.args.body.now 3 in
     let moved_here = c.moved-part.ensures.0 ∙ ap (moved rate) c.amount_of-amount.ensures.0 in
     let more = grown rate c.args.k amounts (kept_here c.loop-i.invariant.moves (omega arith)) moved_here in
-    record { fits = omega (arith, more, moved-few rate amounts (suc c.args.k) (c.requires.body_len.3 c.loop-i.i) c.requires.at_most) }
+    record { fits = omega (arith, more, moved-few rate amounts (suc c.args.k) (c.requires.body_len.2 c.loop-i.i) c.requires.at_most) }
 
 pub loop-i-preserved : goal.loop-i-preserved
 loop-i-preserved c =

@@ -10,7 +10,7 @@ use Rattle.laws.proofs.Lists.{tabulate-ext}
 use Rattle.paper.specs.Behaviour.{whole_rate, behavioural_rate, term_deposit_flow}
 use Rattle.paper.proofs.Deposits.{rate-at-most}
 use Rattle.fields.specs.Answers.{amounts_from}
-use Rattle.posting.proofs.Loops.{row-long, row_small, row_at}
+use Rattle.posting.proofs.Loops.{row_small, row_at}
 use Rattle.behaviour.specs.Rows.{three_multipliers}
 use Rattle.behaviour.proofs.AmountRange.{amounts-few}
 use Rattle.behaviour.proofs.Columns.{kept-none, kept_small, columns-none, columns-small}
@@ -22,7 +22,7 @@ rates-small share e = row_small (behavioural_rate three_multipliers share) 3 who
 
 pub loop-k-init : goal.loop-k-init
 unfolding sum
-loop-k-init c = record { stays = columns-none c.requires.body_len.2; moves = kept-none 0 (λ r. refl) }
+loop-k-init c = record { stays = columns-none (omega arith); moves = kept-none 0 (λ r. refl) }
 
 pub withdrawn_column-requires : goal.withdrawn_column-requires
 withdrawn_column-requires c =
@@ -31,7 +31,6 @@ withdrawn_column-requires c =
       body_len = (
         c.requires.body_len.0,
         omega arith,
-        row-long (behavioural_rate three_multipliers c.args.share) 3 rates,
         rates-small c.args.share rates,
       );
       at_most = c.requires.at_most;
@@ -48,7 +47,6 @@ raise_first-requires c =
     let small = c.requires.at_most in
     let amounts = amounts_from c.args.body.now 3 in
     record {
-      rows_len = (all.stays.long, all.moves.long);
       at_most = columns-small (λ r j. omega (arith, small j)) all.stays;
       at_most_2 = kept_small
           (λ r _. omega (arith, moved-few (get_or c.rates_of-rates.result r 0) amounts 19 (rates-small c.args.share c.rates_of-rates.ensures r) small))

@@ -10,7 +10,7 @@ use Rattle.paper.proofs.Deposits.{deposit-adds-up}
 use Rattle.fields.specs.Answers.{amounts_from}
 use Rattle.record.specs.Answers.{deposit_of}
 use Rattle.posting.specs.Parts.{trillion}
-use Rattle.posting.proofs.Loops.{row-long, row_small}
+use Rattle.posting.proofs.Loops.{row_small}
 use Rattle.portfolio.proofs.RecordFlows.{core-small}
 use mathlib.Core.Bool.{false}
 use mathlib.Core.List.{List}
@@ -46,19 +46,18 @@ module _ (c : In_ok-deposit) where
   unfolding SoundFlows
   within = core-within fields.category fields.total.0 (amounts_from body 6) sound.3
 
-pub core_row-requires : goal.core_row-requires
+pub core_row-row-requires : goal.core_row-row-requires
 unfolding SoundFlows
-core_row-requires c =
-    record { body_len = (c.args.body.known.long, (sound (goal.at.core_row-requires c).In_ok-deposit).1.to, refl); at_most = (amounts-small (sound (goal.at.core_row-requires c).In_ok-deposit).2, within (goal.at.core_row-requires c).In_ok-deposit) }
+core_row-row-requires c =
+    record { body_len = (c.args.body.known.long, (sound (goal.at.core_row-row-requires c).In_ok-deposit).1.to); at_most = (amounts-small (sound (goal.at.core_row-row-requires c).In_ok-deposit).2, within (goal.at.core_row-row-requires c).In_ok-deposit) }
 
 pub enter_row-requires : goal.enter_row-requires
 unfolding SoundFlows
 enter_row-requires c =
     let whole = (fields (goal.at.enter_row-requires c).In_ok-deposit).total.0 in
     let core = amounts_from (body (goal.at.enter_row-requires c).In_ok-deposit) 6 in
-    let filled = c.core_row.ensures in record {
-      row_len = (
-        row-long (deposit_flow whole core) buckets filled,
+    let filled = c.core_row-row.ensures in record {
+      row_small = (
         row_small (deposit_flow whole core) buckets trillion filled (λ k l. omega (arith, core-small whole core (amounts-few (body (goal.at.enter_row-requires c).In_ok-deposit) 6) (within (goal.at.enter_row-requires c).In_ok-deposit) k l, (sound (goal.at.enter_row-requires c).In_ok-deposit).1.to)),
         omega (arith, (sound (goal.at.enter_row-requires c).In_ok-deposit).1.to),
       );
@@ -77,4 +76,4 @@ returns c =
     let core = amounts_from (body (goal.at.returns c).In_ok-deposit) 6 in
     steady-taken d.currency _ 2 (deposit_flow whole core) whole (deposit-adds-up whole core (amounts-few (body (goal.at.returns c).In_ok-deposit) 6) (within (goal.at.returns c).In_ok-deposit)) (λ i k. refl)
     c.requires.flow_parts (read (goal.at.returns c).In_ok-deposit)
-    (row-entered (deposit_flow whole core) 2 _ c.core_row.ensures c.enter_row.ensures)
+    (row-entered (deposit_flow whole core) 2 _ c.core_row-row.ensures c.enter_row.ensures)

@@ -59,7 +59,7 @@ chosen = refl
 pub loan_rows-requires : goal.loan_rows-requires
 unfolding SoundFlows
 loan_rows-requires c =
-    record { body_len = (c.args.body.known.long, (sound (goal.at.loan_rows-requires c).In_ok-loan).0.to, refl, refl); sound_schedule = schedule-of (fields (goal.at.loan_rows-requires c).In_ok-loan).share _ _ (sound (goal.at.loan_rows-requires c).In_ok-loan) }
+    record { body_len = (c.args.body.known.long, (sound (goal.at.loan_rows-requires c).In_ok-loan).0.to); sound_schedule = schedule-of (fields (goal.at.loan_rows-requires c).In_ok-loan).share _ _ (sound (goal.at.loan_rows-requires c).In_ok-loan) }
 
 pub enter_rows-requires : goal.enter_rows-requires
 enter_rows-requires c =

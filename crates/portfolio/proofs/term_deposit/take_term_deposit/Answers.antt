@@ -59,10 +59,10 @@ chosen : tied which withdrawal_multipliers ≡ true
 unfolding all three_multipliers withdrawal_multipliers
 chosen = refl
 
-pub withdrawn_rows-requires : goal.withdrawn_rows-requires
+pub withdrawn_rows-rows-requires : goal.withdrawn_rows-rows-requires
 unfolding SoundFlows
-withdrawn_rows-requires c =
-    record { body_len = (c.args.body.known.long, (sound (goal.at.withdrawn_rows-requires c).In_ok-deposit).0.to, refl); at_most = amounts-small (sound (goal.at.withdrawn_rows-requires c).In_ok-deposit).1 }
+withdrawn_rows-rows-requires c =
+    record { body_len = (c.args.body.known.long, (sound (goal.at.withdrawn_rows-rows-requires c).In_ok-deposit).0.to); at_most = amounts-small (sound (goal.at.withdrawn_rows-rows-requires c).In_ok-deposit).1 }
 
 -- no flow is above all that is deposited
 row_within : (w : In_ok-deposit) (n k : ℕ) → k < buckets → row w n k ≤ sum_of (amounts_from (body w) 3)
@@ -78,7 +78,7 @@ rows-small w filled =
 
 pub row_sum-sums-requires : goal.row_sum-sums-requires
 row_sum-sums-requires c =
-    let filled = c.withdrawn_rows.ensures in
+    let filled = c.withdrawn_rows-rows.ensures in
     first-row (row (goal.at.row_sum-sums-requires c).In_ok-deposit) filled (rows-small (goal.at.row_sum-sums-requires c).In_ok-deposit filled)
 
 pub enter_rows-requires : goal.enter_rows-requires
@@ -86,9 +86,9 @@ unfolding SoundFlows
 enter_rows-requires c =
     let w = (goal.at.enter_rows-requires c).In_ok-deposit in
     -- all that is deposited, at every rate
-    let summed = c.row_sum-sums.ensures ∙ first-sum (row w) c.withdrawn_rows.ensures
+    let summed = c.row_sum-sums.ensures ∙ first-sum (row w) c.withdrawn_rows-rows.ensures
     ∙ moves-add-up (behavioural_rate three_multipliers (fields w).share 0) (amounts_from (body w) 3) (rate-at-most three_multipliers (fields w).share 0) (amounts-few (body w) 3) in
-    let filled = c.withdrawn_rows.ensures in
+    let filled = c.withdrawn_rows-rows.ensures in
     let most = amounts-most (amounts_from (body w) 3) (amounts-few (body w) 3) (amounts-small (sound w).1) in record {
       row_parts = record {
         rows_long = row-long (by_place (row w)) 57 filled;
@@ -108,13 +108,13 @@ pub returns : goal.returns
 returns c =
     let w = (goal.at.returns c).In_ok-deposit in
     -- all that is deposited, at every rate
-    let summed = c.row_sum-sums.ensures ∙ first-sum (row w) c.withdrawn_rows.ensures
+    let summed = c.row_sum-sums.ensures ∙ first-sum (row w) c.withdrawn_rows-rows.ensures
     ∙ moves-add-up (behavioural_rate three_multipliers (fields w).share 0) (amounts_from (body w) 3) (rate-at-most three_multipliers (fields w).share 0) (amounts-few (body w) 3) in
     let d = fields w in
     let amounts = amounts_from (body w) 3 in
     let within = tied-within which withdrawal_multipliers chosen in
     rows_taken _ (read w) 2 c.requires.flow_parts (row w) which (replicate 3 c.row_sum-sums.result.0)
-    c.withdrawn_rows.ensures within
+    c.withdrawn_rows-rows.ensures within
     (λ i k o. ap (λ (x : ℕ). sided 2 (pos (term_deposit_flow x amounts k))) (tied-rate which withdrawal_multipliers chosen i o d.share)
     ∙ withdrawn-flow d.currency d.share amounts i k)
     (λ i o. get_or-replicate 3 _ c.row_sum-sums.result.0 0 (within i o) ∙ summed ∙ sym (size-term-deposit d.currency i d.share amounts (amounts-few (body w) 3)))
