@@ -8,7 +8,7 @@ ghost use Rattle.paper.specs.Verdict.{scenario_sum, measure, worst};
 ghost use Rattle.arrays.specs.Rooms.{listed};
 ghost use Rattle.verdict.specs.Figures.{Figures};
 
-use paper::{SCENARIOS, SHOCKED};
+use paper::{CHANGES, SCENARIOS, SHOCKED};
 use scales::{SignedThousands, Thousands};
 
 // The loss, with no gain to set against it.
@@ -19,7 +19,7 @@ fn positive(change: SignedThousands) -> Thousands
 }
 
 // A scenario's sum adds the positive changes over currencies.
-pub fn scenario_sum(changes: &[i64], last: usize, scenario: usize) -> Thousands
+pub fn scenario_sum(changes: &[i64; CHANGES], last: usize, scenario: usize) -> Thousands
     requires le_scenario { (1 ≤ scenario) × (scenario ≤ shocked) }
     requires figures { Figures last changes.now }
     ensures { result.0 ≡ scenario_sum currencies (listed changes.now) scenario }
@@ -39,7 +39,7 @@ pub struct Greatest {
     pub scenario: u64,
 }
 
-pub fn greatest_sum(changes: &[i64], last: usize) -> Greatest
+pub fn greatest_sum(changes: &[i64; CHANGES], last: usize) -> Greatest
     requires { Figures last changes.now }
     ensures sum_value { result.sum.0 ≡ measure currencies (listed changes.now) }
     ensures scenario_value { result.scenario ≡ worst currencies (listed changes.now) }
