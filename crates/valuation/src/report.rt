@@ -17,33 +17,36 @@ use verdict::verdict::verdict_of;
 // The six sums start where the changes end, and here the last four numbers.
 const CLOSING: usize = CHANGES + SHOCKED;
 
-fn write_sums(changes: &[i64], last: usize, room: &mut [i64])
-    requires room_len { length room.old ≡ shocked }
-    requires figures { Figures last changes.now }
-    ensures { room.new ≡ tabulate_from (λ i. pos (scenario_sum currencies (listed changes.now) i)) 1 shocked }
+fn six_sums(changes: &[i64; CHANGES], last: usize) -> [i64; SHOCKED]
+    requires { Figures last changes.now }
+    ensures { result ≡ tabulate_from (λ i. pos (scenario_sum currencies (listed changes.now) i)) 1 shocked }
 {
+    let mut sums = [0i64; SHOCKED];
     for i in 0..SHOCKED {
-        room[i] = scenario_sum(changes, last, i + 1).0 as i64;
+        sums[i] = scenario_sum(changes, last, i + 1).0 as i64;
     }
+    sums
 }
 
 // Measure, worst, total tolerance, verdict.
-fn write_closing(worst: Greatest, tolerance: Thousands, tier1: Thousands, room: &mut [i64])
+fn closing(worst: Greatest, tolerance: Thousands, tier1: Thousands) -> [i64; 4]
     requires sum_le_most_of_asum { (worst.sum.0 ≤ most_of_a_sum) × (worst.scenario ≤ scenarios) × (tolerance.0 ≤ most_of_a_sum) }
-    requires tier1_bound { (tier1.0 ≤ 1_000_000_000_000) × (length room.old ≡ 4) }
-    ensures { room.new ≡ closing worst.sum.0 worst.scenario tolerance.0 tier1.0 }
+    requires tier1_bound { tier1.0 ≤ 1_000_000_000_000 }
+    ensures { result ≡ closing worst.sum.0 worst.scenario tolerance.0 tier1.0 }
 {
-    let measure = worst.sum;
-    room[0] = measure.0 as i64;
-    room[1] = worst.scenario as i64;
-    room[2] = tolerance.0 as i64;
-    room[3] = i64::from(verdict_of(measure, tolerance, tier1));
+    let verdict = verdict_of(worst.sum, tolerance, tier1);
+    [
+        worst.sum.0 as i64,
+        worst.scenario as i64,
+        tolerance.0 as i64,
+        i64::from(verdict),
+    ]
 }
 
 // The total tolerance is the measure of the tolerances.
 pub fn write_report(
-    changes: &[i64],
-    tolerances: &[i64],
+    changes: &[i64; CHANGES],
+    tolerances: &[i64; CHANGES],
     last: usize,
     tier1: Thousands,
     report: &mut [i64],
@@ -55,6 +58,6 @@ pub fn write_report(
     let worst = greatest_sum(changes, last);
     let tolerance = greatest_sum(tolerances, last).sum;
     report[0..CHANGES].copy_from_slice(changes);
-    write_sums(changes, last, &mut report[CHANGES..CLOSING]);
-    write_closing(worst, tolerance, tier1, &mut report[CLOSING..FIGURES]);
+    report[CHANGES..CLOSING].copy_from_slice(&six_sums(changes, last));
+    report[CLOSING..FIGURES].copy_from_slice(&closing(worst, tolerance, tier1));
 }
