@@ -1,7 +1,6 @@
-// The lines of a report: its numbers stand in one slice, changes first, then sums, measure, worst, total tolerance and verdict.
+// The lines of a report: its numbers stand in one array, changes first, then sums, measure, worst, total tolerance and verdict.
 ghost use Rattle.std.specs.Prelude.{◌*◌, ◌≤◌, [], ◌∷◌, ◌++◌, ◌≡◌, length, drop, if◌then◌else◌};
 ghost use Rattle.paper.specs.Records.{currencies};
-ghost use Rattle.paper.specs.Ledger.{figures};
 ghost use Rattle.paper.specs.Program.{changes_line, curved_lines, verdict_word, report_text};
 ghost use Rattle.arrays.specs.Masks.{curved_by};
 ghost use Rattle.text.specs.Pages.{HasRoom, Adds};
@@ -9,7 +8,7 @@ ghost use Rattle.text.specs.Longest.{longest_text};
 
 use crate::page::Page;
 use arrays::masks::has_curve;
-use paper::{CHANGES, CURRENCIES, SHOCKED};
+use paper::{CHANGES, CURRENCIES, FIGURES, SHOCKED};
 
 // Where the measure and the two numbers after it stand, after the changes and the sums, and the verdict.
 const MEASURE: usize = CHANGES + SHOCKED;
@@ -18,9 +17,9 @@ const VERDICT: usize = MEASURE + 3;
 
 impl<'a> Page<'a> {
     // C with currency and six changes; no line where the currency has no curve.
-    fn changes(&mut self, report: &[i64], curved: u32, currency: u32)
+    fn changes(&mut self, report: &[i64; FIGURES], curved: u32, currency: u32)
         requires le_currency { (1 ≤ currency) × (currency ≤ currencies) }
-        requires report_len { (length report.now ≡ figures currencies) × HasRoom 156 self.old }
+        requires has_room { HasRoom 156 self.old }
         ensures { Adds (if curved_by curved currency then changes_line report.now currency else []) self.old self.new }
     {
         if has_curve(curved, currency) {
@@ -31,8 +30,8 @@ impl<'a> Page<'a> {
     }
 
     // Currency by currency.
-    fn all_changes(&mut self, report: &[i64], curved: u32)
-        requires { (length report.now ≡ figures currencies) × HasRoom (156 * currencies) self.old }
+    fn all_changes(&mut self, report: &[i64; FIGURES], curved: u32)
+        requires { HasRoom (156 * currencies) self.old }
         ensures { Adds (curved_lines (curved_by curved) (changes_line report.now) currencies) self.old self.new }
     {
         for currency in 1..=CURRENCIES as u32 {
@@ -53,8 +52,8 @@ impl<'a> Page<'a> {
     }
 
     // Each line starts where the one before it ends.
-    pub fn report(&mut self, report: &[i64], curved: u32)
-        requires { (length report.now ≡ figures currencies) × HasRoom longest_text self.old }
+    pub fn report(&mut self, report: &[i64; FIGURES], curved: u32)
+        requires { HasRoom longest_text self.old }
         ensures { Adds (report_text currencies (curved_by curved) report.now) self.old self.new × (length (report_text currencies (curved_by curved) report.now) ≤ longest_text) }
     {
         self.all_changes(report, curved);
@@ -65,8 +64,8 @@ impl<'a> Page<'a> {
 }
 
 // Answers how many bytes they are; those after them are left as they are.
-pub fn write_report(report: &[i64], curved: u32, out: &mut [u8]) -> usize
-    requires { (length report.now ≡ figures currencies) × (longest_text ≤ length out.old) }
+pub fn write_report(report: &[i64; FIGURES], curved: u32, out: &mut [u8]) -> usize
+    requires { longest_text ≤ length out.old }
     ensures value { (result ≡ length (report_text currencies (curved_by curved) report.now)) × (result ≤ longest_text) }
     ensures out_after { out.new ≡ report_text currencies (curved_by curved) report.now ++ drop result out.old }
 {

@@ -14,11 +14,11 @@ pub loop-currency-init : goal.loop-currency-init
 unfolding curved_lines
 loop-currency-init c = adds_none _
 
-pub changes-requires-clause-report_len : goal.changes-requires-clause-report_len
-changes-requires-clause-report_len c =
+pub changes-requires-clause-has_room : goal.changes-requires-clause-has_room
+changes-requires-clause-has_room c =
     let report = c.args.report.now in
     let done = c.loop-currency.currency - 1 in
-    (c.requires.0, omega (arith, lines-length (curved_by c.args.curved) (changes_line report) 156 (λ n. changes-length report n) done))
+    omega (arith, lines-length (curved_by c.args.curved) (changes_line report) 156 (λ n. changes-length report n) done)
 
 pub loop-currency-preserved : goal.loop-currency-preserved
 loop-currency-preserved c =

@@ -18,18 +18,18 @@ use Rattle.text.proofs.page.Page.report.Goals as goal
 
 pub line-requires : goal.line-requires
 line-requires c =
-    let lengths = line-lengths (curved_by c.args.curved) c.args.report.now c.requires.0 in
+    let lengths = line-lengths (curved_by c.args.curved) c.args.report.now (omega arith) in
     omega arith
 
 pub line-requires-2 : goal.line-requires-2
 line-requires-2 c =
-    let lengths = line-lengths (curved_by c.args.curved) c.args.report.now c.requires.0 in
+    let lengths = line-lengths (curved_by c.args.curved) c.args.report.now (omega arith) in
     let sums = rw map-id at c.line.ensures in
     omega arith
 
 pub verdict-requires : goal.verdict-requires
 verdict-requires c =
-    let lengths = line-lengths (curved_by c.args.curved) c.args.report.now c.requires.0 in
+    let lengths = line-lengths (curved_by c.args.curved) c.args.report.now (omega arith) in
     let sums = rw map-id at c.line.ensures in
     let measures = rw map-id at c.line-2.ensures in
     omega arith
