@@ -78,7 +78,7 @@ fn outside(rate: Millionths) -> bool
 // Nineteen base rates in range, and three shocks that are not above their limit.
 #[derive(Clone, Copy)]
 pub struct Drawn<'a> {
-    pub rates: &'a [i64],
+    pub rates: &'a [i64; BUCKETS],
     pub shocks: Shocks,
     pub ghost listed: { Listed Ranged buckets rates.now },
     pub ghost sized: { Sized shocks },
@@ -117,7 +117,7 @@ impl Drawn<'_> {
 }
 
 // The seven scenarios, the base first: scenario i from cell 19 i on.
-pub fn fill_section(rates: &[i64], shocks: Shocks, section: &mut [i32])
+pub fn fill_section(rates: &[i64; BUCKETS], shocks: Shocks, section: &mut [i32])
     requires listed { Listed Ranged buckets rates.now }
     requires sized { Sized shocks }
     requires section_len { length section.old ≡ section_size }
@@ -132,7 +132,7 @@ pub fn fill_section(rates: &[i64], shocks: Shocks, section: &mut [i32])
 }
 
 // The first bucket, from 0, in which some scenario's rate is out of range.
-pub fn first_out_of_range(rates: &[i64], shocks: Shocks) -> Option<usize>
+pub fn first_out_of_range(rates: &[i64; BUCKETS], shocks: Shocks) -> Option<usize>
     requires listed { Listed Ranged buckets rates.now }
     requires sized { Sized shocks }
     ensures { let bucket = first (bad_shocked (curve_of rates.now shocks)) 0 buckets in MatchOption result (bucket ≡ buckets) (λ k. (bucket ≡ k) × (k < buckets)) }

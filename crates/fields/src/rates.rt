@@ -24,9 +24,8 @@ pub fn rate_at(body: &[u8], at: usize) -> Result<Millionths, Fault>
 }
 
 // All are in range, or the first that is not.
-pub fn rates_at(body: &[u8], from: usize, rates: &mut [i64]) -> Result<(), Fault>
+pub fn rates_at(body: &[u8], from: usize, rates: &mut [i64; BUCKETS]) -> Result<(), Fault>
     requires from_in_bounds { from + 76 ≤ length body.now }
-    requires rates_len { length rates.old ≡ buckets }
     ensures value { result ≡ result_of no_value (each (rate_at body.now) buckets from) }
     ensures rates_after { rates.new ≡ rates_set body.now from rates.old }
 {

@@ -23,7 +23,7 @@ pub struct Curve {
 }
 
 // Shocked rates come last. The rates begin at `from` in the body.
-fn drawn(currency: u32, shocks: Shocks, rates: &[i64], from: usize) -> Result<Curve, Fault>
+fn drawn(currency: u32, shocks: Shocks, rates: &[i64; BUCKETS], from: usize) -> Result<Curve, Fault>
     requires listed { Listed Ranged buckets rates.now }
     requires sized { Sized shocks × (from ≤ 5) }
     ensures { result ≡ drawn_of currency shocks (drawn currency (curve_of rates.now shocks) from) }
