@@ -4,7 +4,6 @@
 ghost use Rattle.std.specs.Prelude.{◌++◌, ◌≡◌, ◌≤◌, length, drop};
 ghost use Rattle.paper.specs.Refusals.{number_of};
 ghost use Rattle.paper.specs.Records.{currencies};
-ghost use Rattle.paper.specs.Ledger.{cells, figures};
 ghost use Rattle.paper.specs.Program.{capital_in, program_outcome, refusal_text, printed};
 ghost use Rattle.book.specs.Assessed.{Answers};
 ghost use Rattle.text.specs.Longest.{longest_text};
@@ -30,8 +29,11 @@ pub fn capital_in(input: &[u8]) -> Thousands
 }
 
 // The answer to an input, in rooms that are just as long as a report and a ledger.
-pub fn answer(input: &[u8], report: &mut [i64], ledger: &mut [i64]) -> Result<u32, Fault>
-    requires { (length report.old ≡ figures currencies) × (length ledger.old ≡ cells currencies) }
+pub fn answer(
+    input: &[u8],
+    report: &mut [i64; FIGURES],
+    ledger: &mut [i64; CELLS],
+) -> Result<u32, Fault>
     ensures { Answers (program_outcome currencies input.now) (capital_in input.now) report.old ledger.old result report.new ledger.new }
 {
     if input.len() > LONGEST_INPUT {
