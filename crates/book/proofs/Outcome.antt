@@ -1,10 +1,10 @@
 -- What the entry function answers, way out by way out.
-use Prim.Native.Nat.{ℕ, suc, ◌*◌, ◌≤◌, ◌<◌}
+use Prim.Native.Nat.{ℕ, suc, ◌≤◌, ◌<◌}
 use mathlib.Core.Bool.{Bool, true, false, not, ◌&&◌, ◌||◌}
 use mathlib.Core.List.{List, [], ◌++◌, append-nil}
 use mathlib.Core.Path.{◌≡◌, refl, sym, ap, ◌∙◌}
 use native.Mathlib.Omega.{arith}
-use borrow.Author.Tests.{le-leb, lt-leb, leb-true, leb-false, lt-ltb, le-ltb, ltb-false, not-false}
+use borrow.Author.Tests.{leb-true, leb-false, lt-ltb, le-ltb, ltb-false, not-false}
 use lib.IntN.{ℤ, pos}
 use lib.ListN.{length, take, drop, replicate, drop_of_length-le, take-append-drop}
 use lib.Seq.{length-take-le}
@@ -15,7 +15,6 @@ use Rattle.paper.specs.declared.Refusal.{Refusal}
 use Rattle.paper.specs.declared.Refusal.TheVariants.{BadCapital, BookTooLong, RoomTooSmall}
 use Rattle.paper.specs.declared.Fault.{Fault}
 use Rattle.paper.specs.Refusals.{number_of, Checked, accepted, refused, ◌>>◌, unless, answer_of}
-use Rattle.paper.specs.Flow.{scenarios, shocked}
 use Rattle.paper.specs.Records.{Record, currencies}
 use Rattle.paper.specs.Ledger.{totals, curved, cells, figures, ledger_of}
 use Rattle.paper.specs.TurnedDown.{lacks_curve, bad_capital, longest_book, book_too_long, room_too_small}
@@ -25,8 +24,7 @@ use Rattle.paper.proofs.Checks.{Known, known_of, cause-of, unless-known, through
 use Rattle.paper.proofs.Walk.{Good, records-good}
 use Rattle.arrays.specs.Masks.{curved_by, MaskOf}
 use Rattle.arrays.specs.Rooms.{totals_by}
-use Rattle.arrays.specs.Arrays.{Arrays, arrays_as, arrays_of, Sized}
-use Rattle.arrays.proofs.More.{nothing-kept}
+use Rattle.arrays.specs.Arrays.{Arrays, arrays_of, Sized}
 use Rattle.arrays.proofs.Bounds.{arrays-sized}
 use Rattle.valuation.specs.Bounds.{Bounds}
 use Rattle.valuation.proofs.KeptRecords.{kept-bounds, kept-report}

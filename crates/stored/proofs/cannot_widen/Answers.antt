@@ -1,5 +1,4 @@
 -- `cannot_widen`: 18 is on the list and on the room.
-use mathlib.Core.Path.{◌∙◌}
 use Rattle.stored.proofs.Widening.{other-length, by-the-room}
 use Rattle.stored.proofs.cannot_widen.Goals as goal
 

@@ -1,6 +1,6 @@
 -- `bad_capital`: 16 has two ends.
-use mathlib.Core.Path.{refl, ◌∙◌}
-use Rattle.std.proofs.Common.{arith, rules}
+use mathlib.Core.Path.{◌∙◌}
+use Rattle.std.proofs.Common.{arith}
 use Rattle.book.proofs.Outcome.{capital-in}
 use Rattle.book.proofs.assess.bad_capital.Goals as goal
 
