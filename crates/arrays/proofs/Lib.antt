@@ -12,5 +12,3 @@ pub mod Last
 pub mod MaskCases
 -- a place reads the same by the records kept, by the arrays and by a currency's parts
 pub mod Agree
--- what is true of the arrays whatever the records kept
-pub mod Within

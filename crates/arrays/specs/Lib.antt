@@ -3,4 +3,3 @@ pub mod Rooms
 pub mod Slots
 pub mod Arrays
 pub mod Lent
-pub mod Within

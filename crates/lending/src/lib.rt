@@ -4,18 +4,18 @@
 ghost use Rattle.std.specs.Prelude.{[], ◌≡◌, ◌≤◌, length};
 ghost use Rattle.paper.specs.Records.{currencies, body_length};
 ghost use Rattle.paper.specs.Ledger.{cells};
-ghost use Rattle.arrays.specs.Arrays.{arrays_of};
-ghost use Rattle.arrays.specs.Within.{AddOnsWithin, Bare, CellsWithin, Limited};
+ghost use Rattle.arrays.specs.Arrays.{Holding, arrays_of};
 ghost use Rattle.record.specs.Answers.{IsBody};
 ghost use Rattle.kinds.specs.Kind.{kind_number};
 ghost use Rattle.lending.specs.Records.{TakesRecord};
+ghost use Rattle.lending.specs.Working.{arrays_in};
 
 use arrays::masks::has_curve;
 use kinds::{Kind, take_body};
 use paper::{CELLS, CHANGES, CURRENCIES, Fault, SCENARIOS, SECTION, SHOCKED};
 
-// What the records kept come to. The ledger is the caller's room; the other four are seen by nobody else. Ledger and rates have 133 places a currency, sizes 7, add-ons and the
-// sizes of options 6. No cell is more than its scenario's sum of sizes, no add-on more than its sum of options, and by 14 none of these sums passes a billion.
+// What the records kept come to. The ledger is the caller's room; the other four are made for an assessment. Ledger and rates have 133 places a currency, sizes 7, add-ons and the
+// sizes of options 6.
 #[derive(Drop)]
 pub struct Working<'a> {
     pub ledger: &'a mut [i64],
@@ -23,16 +23,9 @@ pub struct Working<'a> {
     pub addons: [i64; CHANGES],
     pub sizes: [u64; SCENARIOS * CURRENCIES],
     pub options: [u64; CHANGES],
-    pub ghost room: { length ledger.now ≡ cells currencies },
-    pub ghost cells_within: { CellsWithin ledger.now sizes },
-    pub ghost addons_within: { AddOnsWithin addons options },
-    pub ghost sizes_limited: { Limited sizes },
-    pub ghost options_limited: { Limited options },
 }
 
 impl<'a> Working<'a> {
-    ghost use Rattle.lending.specs.Working.{arrays_in};
-
     // Nothing is kept yet.
     pub fn new(ledger: &'a mut [i64]) -> Working<'a>
         requires { length ledger.now ≡ cells currencies }
@@ -52,7 +45,7 @@ impl<'a> Working<'a> {
     // The currency's parts are lent in one call to the function of the record's kind.
     pub fn take(&mut self, kind: Kind, currency: u32, curved: u32, body: &[u8]) -> Result<(), Fault>
         requires body { IsBody (body_length (kind_number kind)) currency body.now × (1 ≤ currency) × (currency ≤ currencies) }
-        requires bare { Bare curved self.old.rates }
+        requires holding { Holding (record { used = 0; curved = curved }) (arrays_in self.old) }
         ensures same_ledger { self.new.ledger.ghost_name ≡ self.old.ledger.ghost_name }
         ensures taken { TakesRecord curved (kind_number kind) body.now (arrays_in self.old) result (arrays_in self.new) }
     {

@@ -21,7 +21,7 @@ use Rattle.paper.proofs.Walk.{admitted-inside}
 use Rattle.paper.proofs.KindTable.{first_field}
 use Rattle.arrays.specs.declared.masks.Masks.{Masks}
 use Rattle.arrays.specs.Masks.{marked_by}
-use Rattle.arrays.specs.Arrays.{Arrays, with_record}
+use Rattle.arrays.specs.Arrays.{Arrays, Holding, with_record}
 use Rattle.posting.specs.Answers.{into}
 use Rattle.kinds.specs.declared.kind.Kind.{Kind}
 use Rattle.kinds.specs.Kind.{kind_number}
@@ -86,6 +86,10 @@ all_said = result_of (λ r. tt)
 pub body-long : (kind : Kind) → 0 < body_length (kind_number kind)
 unfolding unknown_kind
 body-long kind = omega (arith, eqb-false (body_length (kind_number kind)) 0 (number-known kind))
+
+-- reading a body asks nothing of the currencies used
+pub curves-hold : {m : Masks} {a : Arrays} → Holding m a → Holding (record { used = 0; curved = m.curved }) a
+curves-hold h = record { sized = h.sized; used-small = omega arith; curved-small = h.curved-small; bare = h.bare }
 
 module _ (before : SoFar) (kind : ℕ) (body : List ℕ) where
   abbrev read : Checked Record

@@ -4,7 +4,7 @@
 
 ghost use Rattle.std.specs.Prelude.{◌≡◌, ◌+◌, length, Ok, Some};
 ghost use Rattle.paper.specs.Records.{body_length};
-ghost use Rattle.arrays.specs.Within.{Bare};
+ghost use Rattle.arrays.specs.Arrays.{Holding};
 ghost use Rattle.kinds.specs.Kind.{kind_number};
 ghost use Rattle.lending.specs.Working.{arrays_in};
 ghost use Rattle.reader.specs.Reader.{stands_at};
@@ -28,7 +28,7 @@ fn placed(fault: Fault, at: usize) -> Fault
 
 // A whole body.
 fn take_body(kind: Kind, body: &[u8], masks: Masks, working: &mut Working) -> Result<Masks, Fault>
-    requires { (length body.now ≡ body_length (kind_number kind)) × Bare masks.curved working.old.rates }
+    requires { (length body.now ≡ body_length (kind_number kind)) × Holding masks (arrays_in working.old) }
     ensures same_ledger { working.new.ledger.ghost_name ≡ working.old.ledger.ghost_name }
     ensures steps { StepsOver (kind_number kind) body.now masks (arrays_in working.old) result (arrays_in working.new) }
 {
@@ -47,7 +47,7 @@ pub fn take_record(
     masks: Masks,
     working: &mut Working,
 ) -> Result<Masks, Fault>
-    requires { (Some (Ok found) ≡ stands_at book.now found.at) × Bare masks.curved working.old.rates }
+    requires { (Some (Ok found) ≡ stands_at book.now found.at) × Holding masks (arrays_in working.old) }
     ensures same_ledger { working.new.ledger.ghost_name ≡ working.old.ledger.ghost_name }
     ensures turns { Turns book.now found.at masks (arrays_in working.old) result (arrays_in working.new) }
 {

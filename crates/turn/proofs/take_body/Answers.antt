@@ -16,7 +16,7 @@ use Rattle.kinds.specs.Kind.{kind_number}
 use Rattle.kinds.proofs.Numbers.{number-known}
 use Rattle.lending.specs.Records.{tested}
 use Rattle.lending.specs.Working.{arrays_in}
-use Rattle.turn.proofs.TurnLaws.{body-long, stepped-bad, stepped-done}
+use Rattle.turn.proofs.TurnLaws.{body-long, curves-hold, stepped-bad, stepped-done}
 use Rattle.turn.proofs.take_body.Goals as goal
 use Rattle.turn.proofs.take_body.Goals.{Start, In_ok-currency}
 
@@ -41,6 +41,9 @@ pub take-requires-clause-body : goal.take-requires-clause-body
 take-requires-clause-body c =
     let w = (goal.at.take-requires-clause-body c).In_ok-currency in
     (record { long = c.requires.0; first = first w }, (range w).from, (range w).to)
+
+pub take-requires-clause-holding : goal.take-requires-clause-holding
+take-requires-clause-holding c = curves-hold c.requires.1
 
 pub with_curve-requires : goal.with_curve-requires
 with_curve-requires c = let r = range (goal.at.with_curve-requires c).In_ok-currency in (r.from, r.to)

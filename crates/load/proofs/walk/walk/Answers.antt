@@ -18,7 +18,7 @@ returns-in_err-found-clause-walks c =
 
 pub take_record-requires : goal.take_record-requires
 take_record-requires c =
-    (found-here c.loop-found.invariant.2 (rw c.in_ok-found.was at c.in-Some.ensures.steps), (holds _ _ _ _ c.loop-found.invariant.2.walking).bare)
+    (found-here c.loop-found.invariant.2 (rw c.in_ok-found.was at c.in-Some.ensures.steps), holds _ _ _ _ c.loop-found.invariant.2.walking)
 
 pub returns-in_err-masks-clause-walks : goal.returns-in_err-masks-clause-walks
 returns-in_err-masks-clause-walks c =
