@@ -18,7 +18,7 @@ use valuation::fill_report;
 
 // The report that the working arrays come to.
 fn report_of(working: &Working, curved: u32, tier1: Thousands, report: &mut [i64])
-    requires report_len { length report.old ≡ figures currencies }
+    requires report_len { (length report.old ≡ figures currencies) × (length working.now.ledger.now ≡ cells currencies) }
     requires tier1_bound { tier1.0 ≤ 1_000_000_000_000 }
     requires bounds { Bounds (totals_by working.now.ledger.now working.now.addons working.now.rates) (curved_by curved) }
     ensures { report.new ≡ report_of currencies (totals_by working.now.ledger.now working.now.addons working.now.rates) tier1.0 }

@@ -4,6 +4,7 @@
 ghost use Rattle.std.specs.Prelude.{List, ◌*◌, ◌++◌, ◌≡◌, ◌≤◌, length, drop};
 ghost use Rattle.paper.specs.Refusals.{accepted};
 ghost use Rattle.paper.specs.Records.{Record, currencies, kind_count};
+ghost use Rattle.paper.specs.Ledger.{cells};
 ghost use Rattle.paper.specs.TurnedDown.{longest_book};
 ghost use Rattle.paper.specs.Detail.{detailed};
 ghost use Rattle.arrays.specs.Masks.{curved_by};
@@ -32,7 +33,7 @@ pub const LONGEST_DETAIL: usize = LONGEST_TEXT + LONGEST_BEHIND;
 const MEASURE: usize = CHANGES + SHOCKED;
 
 fn behind_of<'a>(working: &'a Working, counts: &'a [i64], curved: u32) -> Behind<'a>
-    requires counts_len { length counts.now ≡ kind_count * currencies }
+    requires counts_len { (length counts.now ≡ kind_count * currencies) × (length working.now.ledger.now ≡ cells currencies) }
     requires bounds { Bounds (totals_by working.now.ledger.now working.now.addons working.now.rates) (curved_by curved) }
     ensures arrays { (result.ledger.now ≡ working.now.ledger.now) × (result.rates.now ≡ working.now.rates) × (result.add_ons.now ≡ working.now.addons) }
     ensures counts { (result.counts.now ≡ counts.now) × (result.curved ≡ curved) }

@@ -3,7 +3,7 @@ use mathlib.Core.Path.{sym, ap, ◌∙◌}
 use lib.ListN.{length}
 use Rattle.paper.specs.Detail.{places}
 use Rattle.paper.proofs.Detail.{never}
-use Rattle.book.proofs.Outcome.{bounds-hold}
+use Rattle.book.proofs.Outcome.{all-sized, bounds-hold}
 use Rattle.tally.proofs.Progress.{counts-long}
 use Rattle.detailing.proofs.KeptText.{loaded-text}
 use Rattle.detailing.proofs.put_behind.Goals as goal
@@ -14,9 +14,13 @@ load-requires c = c.new-working.ensures.nothing_kept
 pub behind_of-requires : goal.behind_of-requires
 behind_of-requires c =
     let loads = c.load.ensures.loads in
+    let all = loads.all _ c.in-Ok.is in
     record {
-      counts_len = ap length c.tally-count.ensures.counts_after ∙ counts-long c.args.book.now (places c.args.book.now);
-      bounds = bounds-hold _ _ _ loads.arrays (loads.all _ c.in-Ok.is);
+      counts_len = (
+        ap length c.tally-count.ensures.counts_after ∙ counts-long c.args.book.now (places c.args.book.now),
+        (all-sized _ _ _ loads.arrays all).ledger-long,
+      );
+      bounds = bounds-hold _ _ _ loads.arrays all;
     }
 
 pub returns-in-Err : goal.returns-in-Err

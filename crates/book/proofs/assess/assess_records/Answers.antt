@@ -1,7 +1,7 @@
 -- `assess_records`: the two ways out are those of the paper's outcome.
 use mathlib.Core.Path.{sym, ◌∙◌}
 use native.Mathlib.Omega.{arith}
-use Rattle.book.proofs.Outcome.{answers-refused, bounds-hold, answers-reported}
+use Rattle.book.proofs.Outcome.{all-sized, answers-refused, bounds-hold, answers-reported}
 use Rattle.book.proofs.assess.assess_records.Goals as goal
 
 pub load-requires : goal.load-requires
@@ -10,7 +10,12 @@ load-requires c = c.new-working.ensures.nothing_kept
 pub report_of-requires : goal.report_of-requires
 report_of-requires c =
     let loads = c.load.ensures.loads in
-    record { report_len = c.requires.report_len.0; tier1_bound = c.requires.tier1_bound; bounds = bounds-hold _ _ _ loads.arrays (loads.all _ c.in-Ok.is) }
+    let all = loads.all _ c.in-Ok.is in
+    record {
+      report_len = (c.requires.report_len.0, (all-sized _ _ _ loads.arrays all).ledger-long);
+      tier1_bound = c.requires.tier1_bound;
+      bounds = bounds-hold _ _ _ loads.arrays all;
+    }
 
 pub returns-in-Err : goal.returns-in-Err
 returns-in-Err c =
