@@ -6,7 +6,7 @@ use mathlib.Core.Logic.{⊎_elim}
 use mathlib.Core.Path.{◌≡◌, sym, ap, ◌∙◌}
 use native.Mathlib.Omega.{arith}
 use lib.IntN.{ℤ, pos, nat_abs}
-use lib.ListN.{get_or}
+use lib.ListN.{length, get_or}
 use Rattle.laws.specs.Integers.{up}
 use Rattle.laws.specs.Sums.{sum}
 use Rattle.std.specs.Prelude.{if◌then◌else◌}
@@ -14,7 +14,7 @@ use Rattle.laws.specs.Tests.{◌is◌, first}
 use Rattle.laws.proofs.Integers.{abs_is}
 use Rattle.laws.proofs.Sums.{sum-most, sum-rest, greatest-least}
 use Rattle.laws.proofs.Tests.{lt-or-ge, first_to}
-use Rattle.laws.proofs.Lists.{tabulate-at, tabulate-past}
+use Rattle.laws.proofs.Lists.{tabulate-length, tabulate-at, tabulate-past}
 use Rattle.paper.specs.Records.{currencies}
 use Rattle.paper.specs.Flow.{scenarios, shocked}
 use Rattle.paper.specs.Verdict.{scenario_sum, measure, worst, changes_of}
@@ -60,10 +60,15 @@ worst-most changes = by (measure currencies changes is 0)
 
 -- ---- figures by currency and scenario
 
+pub figures-long : (f : ℕ → ℕ → ℤ) → length (changes_of currencies f) ≡ shocked * currencies
+unfolding changes_of
+figures-long f = tabulate-length _ (shocked * currencies)
+
 pub figures-of : (f : ℕ → ℕ → ℤ) (last : ℕ) → last ≤ currencies → ((c i : ℕ) → 1 ≤ c → c ≤ currencies → 1 ≤ i → i ≤ shocked → nat_abs (f c i) ≤ most_of_a_change)
     → ((c i : ℕ) → last < c → c ≤ currencies → 1 ≤ i → i ≤ shocked → f c i ≡ pos 0) → Figures last (changes_of currencies f)
 unfolding changes_of
 figures-of f last end most none = record {
+  long = figures-long f;
   most = end;
   nil = λ j l. ⊎_elim (nil-inside j l) (tabulate-past at (shocked * currencies) j (pos 0)) (lt-or-ge j (shocked * currencies));
   small = λ j. ⊎_elim (inside j) (outside j) (lt-or-ge j (shocked * currencies));
