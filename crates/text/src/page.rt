@@ -32,12 +32,19 @@ impl<'a> Page<'a> {
         self.written += 1;
     }
 
-    pub fn text(&mut self, text: &str)
+    pub fn bytes(&mut self, text: &[u8])
         requires { HasRoom (length text.now) self.old }
         ensures { Adds text.now self.old self.new }
     {
         let end = self.written + text.len();
-        self.room[self.written..end].copy_from_slice(text.as_bytes());
+        self.room[self.written..end].copy_from_slice(text);
         self.written = end;
+    }
+
+    pub fn text(&mut self, text: &str)
+        requires { HasRoom (length text.now) self.old }
+        ensures { Adds text.now self.old self.new }
+    {
+        self.bytes(text.as_bytes());
     }
 }
