@@ -9,7 +9,6 @@ ghost use Rattle.book.specs.Assessed.{Answers};
 ghost use Rattle.text.specs.Longest.{longest_text};
 
 use book::assess::{assess, without_place};
-use fields::bytes::four_at;
 use paper::{CELLS, FIGURES, Fault, LONGEST_BOOK, Refusal};
 use scales::Thousands;
 use text::refusal::write_refusal;
@@ -25,7 +24,9 @@ pub fn capital_in(input: &[u8]) -> Thousands
     requires { 8 ≤ length input.now }
     ensures { result.0 ≡ capital_in input.now }
 {
-    Thousands(four_at(input, 0) as u64 * 4294967296 + four_at(input, 4) as u64)
+    Thousands(u64::from_be_bytes([
+        input[0], input[1], input[2], input[3], input[4], input[5], input[6], input[7],
+    ]))
 }
 
 // The answer to an input, in rooms that are just as long as a report and a ledger.
@@ -52,7 +53,7 @@ pub fn print_refusal(fault: Fault, out: &mut [u8]) -> usize
     ensures value { (result ≡ length (refusal_text (number_of fault.cause) fault.place)) × (result ≤ 64) }
     ensures out_after { out.new ≡ refusal_text (number_of fault.cause) fault.place ++ drop result out.old }
 {
-    let number = u32::from(fault.cause) as u64;
+    let number = u64::from(u32::from(fault.cause));
     write_refusal(number, fault.place as u64, out)
 }
 
