@@ -34,7 +34,7 @@ fn weighed(weight: i64, shock: u32, share: i64) -> i64
     requires { (nat_abs weight ≤ 100) × ((shock ≤ 1000) × (nat_abs share ≤ billion)) }
     ensures { (result ≡ weight *ℤ pos shock *ℤ share) × (nat_abs result ≤ 100_000_000_000_000) }
 {
-    weight * (shock as i64) * share
+    weight * i64::from(shock) * share
 }
 
 // A change that twists the curve: the short shock goes by s, and the long one by the rest.
@@ -44,7 +44,7 @@ fn twist(shocks: Shocks, share: u32, short: i64, long: i64) -> Millionths
     ensures result_value { result.0 ≡ twisted shocks share short long }
     ensures result_bound { nat_abs result.0 ≤ 200_000 }
 {
-    let s = share as i64;
+    let s = i64::from(share);
     let by_short = weighed(short, shocks.short, s);
     let by_long = weighed(long, shocks.long, 1_000_000_000 - s);
     Millionths(rounded(by_short + by_long))
@@ -57,7 +57,7 @@ fn change(shocks: Shocks, share: u32, scenario: usize) -> Millionths
     ensures result_value { result.0 ≡ get_or (rate_changes shocks share) scenario (pos 0) }
     ensures result_bound { nat_abs result.0 ≤ 200_000 }
 {
-    let p = shocks.parallel as i64;
+    let p = i64::from(shocks.parallel);
     match scenario {
         1 => Millionths(100 * p),
         2 => Millionths(-100 * p),
@@ -72,7 +72,7 @@ fn change(shocks: Shocks, share: u32, scenario: usize) -> Millionths
 fn outside(rate: Millionths) -> bool
     ensures { result ≡ bad_rate rate.0 }
 {
-    rate.0 < -50_000 || 300_000 < rate.0
+    !(-50_000..=300_000).contains(&rate.0)
 }
 
 // Nineteen base rates in range, and three shocks that are not above their limit.
