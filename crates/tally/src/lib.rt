@@ -34,10 +34,7 @@ fn count_record(number: u8, currency: u8, counts: &mut [i64])
     let Ok(kind) = Kind::try_from(number) else {
         return;
     };
-    if currency == 0 {
-        return;
-    }
-    if (CURRENCIES as u8) < currency {
+    if !(1..=CURRENCIES as u8).contains(&currency) {
         return;
     }
     let from = KINDS * (currency as usize - 1);
