@@ -14,21 +14,19 @@ pub fn take_coupons(body: Body<'_, 13>, section: &mut [i64], sizes: &mut [u64]) 
     ensures { TakesFlows (decode_coupons currencies body.entry.bytes.now) section sizes result }
 {
     let bond = decode_coupons(body)?;
-    let coupon = bond.coupon;
-    let principal = bond.principal;
     let coupons = Schedule {
         months: 0,
         days: 0,
         period: bond.period,
         count: bond.count,
-        coupon,
+        coupon: bond.coupon,
     };
     slot_schedule(
         bond.side,
         coupons,
         bond.period * bond.count,
         0,
-        principal,
+        bond.principal,
         section,
         sizes,
     )

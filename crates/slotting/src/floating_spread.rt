@@ -20,13 +20,12 @@ pub fn take_floating_spread(
 {
     let position = decode_floating_spread(body)?;
     let floating = position.floating;
-    let spread = position.spread;
     let spreads = Schedule {
         months: floating.months,
         days: floating.days,
         period: position.period,
         count: position.count,
-        coupon: spread,
+        coupon: position.spread,
     };
     slot_schedule(
         floating.side,
