@@ -25,7 +25,7 @@ impl<'a> Page<'a> {
         if has_curve(curved, currency) {
             let from = SHOCKED * (currency as usize - 1);
             let to = from + SHOCKED;
-            self.line(b'C', &[currency as u64], &report[from..to]);
+            self.line(b'C', &[u64::from(currency)], &report[from..to]);
         }
     }
 

@@ -12,7 +12,7 @@ returns-then-has_curve c =
     let from = 6 * (c.args.currency - 1) in
     let six : from + 6 - from ≡ 6 = omega arith in
     rw (sym c.has_curve.ensures ∙ c.if-has_curve.true)
-    (rw (six, map-id, side_by_side c.args.report.now from 6 (omega arith)) at c.line.ensures)
+    (rw (c.from.ensures, six, map-id, side_by_side c.args.report.now from 6 (omega arith)) at c.line.ensures)
 
 pub returns-else-has_curve : goal.returns-else-has_curve
 returns-else-has_curve c = rw (sym c.has_curve.ensures ∙ c.if-has_curve.false) (adds_none _)
