@@ -25,7 +25,7 @@ impl<'a> Behind<'a> {
         let to = from + SECTION;
         let mut tolerances = [0i64; SHOCKED];
         fill_tolerances(&self.ledger[from..to], &mut tolerances);
-        page.line(b'U', &[currency as u64], &tolerances);
+        page.line(b'U', &[u64::from(currency)], &tolerances);
     }
 
     // For the base and each scenario Z with the nineteen rates, then F with the net flows.
@@ -38,7 +38,7 @@ impl<'a> Behind<'a> {
         for scenario in 0..SCENARIOS {
             let from = own + BUCKETS * scenario;
             let to = from + BUCKETS;
-            let heads = [currency as u64, scenario as u64];
+            let heads = [u64::from(currency), scenario as u64];
             page.line(b'Z', &heads, &self.rates[from..to]);
             page.line(b'F', &heads, &self.ledger[from..to]);
         }
@@ -53,7 +53,7 @@ impl<'a> Behind<'a> {
         let adds_to = adds_from + SHOCKED;
         let counts_from = KINDS * (currency as usize - 1);
         let counts_to = counts_from + KINDS;
-        let heads = [currency as u64];
+        let heads = [u64::from(currency)];
         self.put_tolerances(page, currency);
         self.put_scenarios(page, currency);
         page.line(b'A', &heads, &self.add_ons[adds_from..adds_to]);

@@ -38,7 +38,7 @@ line-requires-2 c =
     let behind = c.args.self.now in
     let six = shocked * (c.args.currency - 1) in
     let ten = kind_count * (c.args.currency - 1) in
-    let adds = rw map-id at c.line.ensures in
+    let adds = rw (c.from.ensures, map-id) at c.line.ensures in
     omega (
       arith,
       tolerances-length (totals_in behind) c.args.currency,
@@ -57,6 +57,6 @@ returns c =
     let currency = c.args.currency in
     let six : shocked * (currency - 1) + shocked - shocked * (currency - 1) ≡ shocked = omega arith in
     let ten : kind_count * (currency - 1) + kind_count - kind_count * (currency - 1) ≡ kind_count = omega arith in
-    let adds = rw (map-id, six, add_ons-of behind.add_ons.now currency (omega (arith, behind.lengths.add_ons-long))) at c.line.ensures in
-    let kinds = rw (map-id, ten, counts_of-section behind.counts.now currency (omega (arith, behind.lengths.counts-long))) at c.line-2.ensures in
+    let adds = rw (c.from.ensures, map-id, six, add_ons-of behind.add_ons.now currency (omega (arith, behind.lengths.add_ons-long))) at c.line.ensures in
+    let kinds = rw (c.from.ensures, map-id, ten, counts_of-section behind.counts.now currency (omega (arith, behind.lengths.counts-long))) at c.line-2.ensures in
     adds_then c.put_tolerances.ensures (adds_then c.put_scenarios.ensures (adds_then adds kinds))

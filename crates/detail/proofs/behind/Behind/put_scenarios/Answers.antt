@@ -43,7 +43,7 @@ line-requires-in-loop-scenario c =
     let loop = c.loop-scenario in
     let currency = c.args.currency in
     let from = section_size * (currency - 1) + buckets * loop.scenario in
-    let zeros = rw (map-id, row_count currency loop.scenario) at c.line.ensures in
+    let zeros = rw (c.from.ensures, map-id, row_count currency loop.scenario) at c.line.ensures in
     rw (row_count currency loop.scenario) (omega (
       arith,
       scenarios-length (cell_by behind.rates.now) (cell_by behind.ledger.now) currency loop.scenario,
@@ -61,8 +61,8 @@ loop-scenario-preserved c =
     let rates = c.args.self.now.rates.now in
     let ledger = c.args.self.now.ledger.now in
     let currency = c.args.currency in
-    let zeros = rw (map-id, row_count currency loop.scenario, row_of rates currency loop.scenario (omega (arith, c.args.self.now.lengths.rates-long))) at c.line.ensures in
-    let flows = rw (map-id, row_count currency loop.scenario, row_of ledger currency loop.scenario (omega (arith, c.args.self.now.lengths.ledger-long))) at c.line-in-loop-scenario.ensures in
+    let zeros = rw (c.from.ensures, map-id, row_count currency loop.scenario, row_of rates currency loop.scenario (omega (arith, c.args.self.now.lengths.rates-long))) at c.line.ensures in
+    let flows = rw (c.from.ensures, map-id, row_count currency loop.scenario, row_of ledger currency loop.scenario (omega (arith, c.args.self.now.lengths.ledger-long))) at c.line-in-loop-scenario.ensures in
     rw add-one (adds_then loop.invariant (adds_then zeros flows))
 
 pub returns : goal.returns

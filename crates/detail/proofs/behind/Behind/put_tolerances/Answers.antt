@@ -27,4 +27,4 @@ returns c =
     let currency = c.args.currency in
     let filled = rw (cells_count currency) at c.fill_tolerances.ensures in
     rw (← tolerances-alone ledger behind.add_ons.now behind.rates.now currency)
-    (rw (map-id, filled ∙ tolerances-of ledger currency (omega arith)) at c.line.ensures)
+    (rw (c.from.ensures, map-id, filled ∙ tolerances-of ledger currency (omega arith)) at c.line.ensures)
