@@ -62,7 +62,5 @@ pub fn loan_rows(body: &[u8], share: u32, rows: &mut [u64; ROWS], sums: &mut [u6
         loan_column(body, width, remaining, k, &mut courses, rows);
         remaining.0 -= amount_of(body, 3, k).0;
     }
-    for (i, course) in courses.iter().enumerate() {
-        sums[i] = course.sum.0;
-    }
+    *sums = courses.map(|course| course.sum.0);
 }

@@ -8,7 +8,6 @@ use lib.ListN.{length, get_or, get_or-map, replicate}
 use borrow.Author.Rules.{rules}
 use Rattle.laws.specs.Sums.{sum}
 use Rattle.laws.proofs.Lists.{tabulate-is, tabulate-ext}
-use Rattle.laws.proofs.Filling.{filled_next}
 use Rattle.paper.specs.Behaviour.{whole_rate, behavioural_rate, outstanding_at, scheduled_at, loan_flow}
 use Rattle.paper.proofs.Deposits.{rate-at-most}
 use Rattle.fields.specs.Answers.{amounts_from}
@@ -93,8 +92,9 @@ loop-k-preserved c = record {
   left = rw add-one (rest-is (amounts_from c.args.body.now 3) c.loop-k.k c.amount_of.ensures.0 c.loop-k.invariant.left).1;
 }
 
-pub loop-i-preserved : goal.loop-i-preserved
-loop-i-preserved c = (search rules, filled_next 0 _ c.loop-i.sums c.loop-i.i _ c.loop-i.invariant.1 (sym (get_or-map (λ (x : Course). x.sum.0) c.loop-k.courses c.loop-i.i _)) (omega arith))
+-- a course past the end of a list
+abbrev none : Course
+none = record { rate = 0; balance = record { 0 = 0 }; sum = record { 0 = 0 } }
 
 -- one of the three rates
 pub returns : goal.returns
@@ -108,6 +108,9 @@ returns c =
     record {
       rows_after = columns-all reached.flows ∙ tabulate-ext _ _ 57 (λ j o. ap (λ (rate : ℕ). flow rate (j % 19)) (rate-at (j / 19) (omega arith)));
       sums_after =
-          tabulate-is 0 c.loop-i.sums _ 3 c.loop-i.invariant.0
-          (λ r o. c.loop-i.invariant.1 r (omega arith) ∙ reached.added.at r o ∙ ap (λ (rate : ℕ). sum (flow rate) 19) (rate-at r o));
+          tabulate-is 0 c.map.result _ 3 c.map.ensures.items.long
+          (λ r o.
+          let k = (c.map.ensures.items.at r none 0 o).2 in
+          let e : get_or c.map.result r 0 ≡ (get_or c.loop-k.courses r none).sum.0 = search rules in
+          e ∙ sym (get_or-map (λ (x : Course). x.sum.0) c.loop-k.courses r none) ∙ reached.added.at r o ∙ ap (λ (rate : ℕ). sum (flow rate) 19) (rate-at r o));
     }

@@ -1,12 +1,10 @@
--- What the loops of `loan_rows` keep: the courses at the buckets passed, and then the sums written.
+-- What the loop of `loan_rows` keeps: the courses at the buckets passed.
 use mathlib.Core.Path.{◌≡◌}
-use lib.ListN.{length, get_or}
 use Rattle.laws.specs.Lists.{tabulate}
-use Rattle.laws.proofs.Filling.{Filled}
 use Rattle.paper.specs.Behaviour.{behavioural_rate, scheduled_at}
 use Rattle.fields.specs.Answers.{amounts_from}
 use Rattle.behaviour.specs.Rows.{three_multipliers}
-use Rattle.behaviour.specs.Columns.{CoursesReached, rates, sums}
+use Rattle.behaviour.specs.Columns.{CoursesReached, rates}
 use Rattle.behaviour.proofs.loan.loan_rows.Given as goal
 
 abbrev pub invariant-loop-k : goal.invariant-loop-k
@@ -15,6 +13,3 @@ invariant-loop-k l = record {
   reached : CoursesReached l.body (λ _. l.k) l.courses l.rows;
   left : l.remaining.0 ≡ scheduled_at (amounts_from l.body 3) l.k;
 }
-
-abbrev pub invariant-loop-i : goal.invariant-loop-i
-invariant-loop-i l = (length l.sums ≡ 3) × Filled 0 l.i (λ r. get_or (sums l.course-items) r 0) l.sums
