@@ -50,6 +50,11 @@ pub decimal-length : (n : ℕ) → length (decimal n) ≤ 20
 unfolding decimal
 decimal-length n = digits-length 20 n
 
+-- of the twenty digits the last is left
+pub front_length : (n : ℕ) → 10 ≤ n → n < 10 ^ 20 → length (decimal (n / 10)) ≤ 19
+front_length n h m =
+    omega (arith, decimal-length n, length-append (decimal (n / 10)) ((48 + n % 10) ∷ []), ap length (decimal-more n h m))
+
 -- ---- the sign
 
 module _ (text : ℕ → List ℕ) where

@@ -41,3 +41,8 @@ on-new-page {text} {l} {m} {new} {after} {count} {most} f none same counted shor
     let first = wrote-first (rw none at f.wrote) in
     let length_is = counted ∙ first.0 in
     ((length_is, rw length_is short), rw (counted, left, ← same) first.1)
+
+-- what stands in a room whose page was begun at a place, when the room is given back
+pub on_begun_page : {text l m : List ℕ} {begun after : Page} {at count : ℕ} → Adds text begun after → begun.written ≡ at → begun.room.now ≡ l → count ≡ after.written → m ≡ after.room.now
+    → Wrote text at l count m
+on_begun_page f so_far same counted left = rw (← so_far, ← same, counted, left) f.wrote

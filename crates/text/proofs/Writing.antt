@@ -39,6 +39,10 @@ wrote_then {s} {t} {at} {l = l} w v = record {
 }
 
 -- from the buffer's start
+pub first-wrote : {text l m : List ℕ} {next : ℕ} → next ≡ length text → m ≡ text ++ drop next l → Wrote text 0 l next m
+unfolding written
+first-wrote {text} {l} e f = record { next-is = e ∙ sym (zero-add (length text)); after_is = f ∙ ap (λ (n : ℕ). text ++ drop n l) e }
+
 pub wrote-first : {text l m : List ℕ} {next : ℕ} → Wrote text 0 l next m → (next ≡ length text) × (m ≡ text ++ drop next l)
 unfolding written
 wrote-first {text} {l} w =

@@ -14,7 +14,16 @@ impl<'a> Page<'a> {
         ensures nothing_written { result.written ≡ 0 }
         ensures as_it_was { result.room.now ≡ room.old }
     {
-        Page { room, written: 0 }
+        Page::begun(room, 0)
+    }
+
+    // Its first bytes, so many, are written already: what is written next stands after them.
+    pub fn begun(room: &'a mut [u8], written: usize) -> Page<'a>
+        ensures same_room { result.room.ghost_name ≡ room.entry.ghost_name }
+        ensures so_far { result.written ≡ written }
+        ensures as_it_was { result.room.now ≡ room.old }
+    {
+        Page { room, written }
     }
 
     // How many bytes are written.
