@@ -7,10 +7,10 @@ ghost use Rattle.reader.specs.Reader.{stands_at, Reads, bytes_left};
 use kinds::Kind;
 use paper::{Fault, Refusal};
 
-#[derive(Drop)]
+#[derive(Clone, Copy)]
 pub struct Reader<'a> {
-    book: &'a [u8],
-    at: usize,
+    pub book: &'a [u8],
+    pub at: usize,
 }
 
 // A whole record is told by its kind, its first byte, and where it ends, which is the place of the next.
@@ -45,6 +45,13 @@ impl<'a> Reader<'a> {
         ensures { (result.book ≡ book.entry) × (result.at ≡ 0) }
     {
         Reader { book, at: 0 }
+    }
+
+    // To another place of its book, as past a record.
+    pub fn moved(self, past: usize) -> Reader<'a>
+        ensures { (result.book ≡ self.entry.book) × (result.at ≡ past) }
+    {
+        Reader { at: past, ..self }
     }
 }
 
