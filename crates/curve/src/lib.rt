@@ -1,8 +1,9 @@
 // Curves and shocks (01, "Curves and shocks"; SRP31.90 to 31.93). Rates are millionths.
 #![tactic(auto)]
 
-ghost use Rattle.std.specs.Prelude.{◌≡◌, ◌<◌, ◌≤◌, pos, nat_abs, ◌*ℤ◌, length, get_or, MatchOption};
-ghost use Rattle.laws.specs.Tests.{first};
+ghost use Rattle.std.specs.Prelude.{◌≡◌, ◌<◌, ◌≤◌, pos, nat_abs, ◌*ℤ◌, length, get_or};
+ghost use Rattle.std.specs.Bool.{then_some};
+ghost use Rattle.laws.specs.Tests.{◌below◌, first};
 ghost use Rattle.laws.specs.Lists.{tabulate};
 ghost use Rattle.paper.specs.Scales.{billion};
 ghost use Rattle.paper.specs.Ladder.{buckets};
@@ -135,7 +136,7 @@ pub fn fill_section(rates: &[i64; BUCKETS], shocks: Shocks, section: &mut [i32])
 pub fn first_out_of_range(rates: &[i64; BUCKETS], shocks: Shocks) -> Option<usize>
     requires listed { Listed Ranged buckets rates.now }
     requires sized { Sized shocks }
-    ensures { let bucket = first (bad_shocked (curve_of rates.now shocks)) 0 buckets in MatchOption result (bucket ≡ buckets) (λ k. (bucket ≡ k) × (k < buckets)) }
+    ensures { let bucket = first (bad_shocked (curve_of rates.now shocks)) 0 buckets in result ≡ then_some (bucket below buckets) bucket }
 {
     let curve = Drawn { rates, shocks };
     (0..BUCKETS).find(|k| curve.out_of_range(*k))

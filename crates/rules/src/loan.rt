@@ -1,5 +1,6 @@
 // Kind 5, a prepayable loan: no interest stands where no principal is scheduled (11).
-ghost use Rattle.std.specs.Prelude.{◌&&◌, ◌≡◌, ◌<◌, length, MatchOption};
+ghost use Rattle.std.specs.Prelude.{◌&&◌, ◌≡◌, length};
+ghost use Rattle.std.specs.Bool.{then_some};
 ghost use Rattle.laws.specs.Tests.{◌is◌, ◌below◌, first};
 ghost use Rattle.laws.specs.Sums.{sum_of};
 ghost use Rattle.paper.specs.Ladder.{buckets};
@@ -21,7 +22,7 @@ fn alone(interest: Thousands, scheduled: Thousands) -> bool
 pub fn interest_alone(body: &[u8], principal: Thousands) -> Option<usize>
     requires body_len { length body.now ≡ 155 }
     requires principal_value { principal.0 ≡ sum_of (amounts_from body.now 3) }
-    ensures { let bucket = first (interest_alone (amounts_from body.now 3) (amounts_from body.now 79)) 0 buckets in MatchOption result (bucket ≡ buckets) (λ k. (bucket ≡ k) × (k < buckets)) }
+    ensures { let bucket = first (interest_alone (amounts_from body.now 3) (amounts_from body.now 79)) 0 buckets in result ≡ then_some (bucket below buckets) bucket }
 {
     let mut scheduled = principal;
     for k in 0..BUCKETS {

@@ -12,6 +12,7 @@ use Rattle.paper.specs.Decode.{decode_loan}
 use Rattle.fields.specs.Answers.{as_it_is, amounts_from, total}
 use Rattle.fields.proofs.Reading.{handed, value, bad}
 use Rattle.fields.proofs.AmountLaws.{Amounting, amounts-summed}
+use Rattle.record.proofs.Firsts.{some_first, no_first}
 use Rattle.record.proofs.loan.decode_loan.Goals as goal
 use Rattle.record.proofs.loan.decode_loan.Goals.{In_ok-principal, In_ok-interest}
 
@@ -43,13 +44,14 @@ pub returns-in-Some : goal.returns-in-Some
 unfolding decode_loan unless ◌>>=◌ ◌>>◌ checked_as
 returns-in-Some c =
     let g = goal.at.returns-in-Some c in
+    let f = some_first _ _ c.in-Some.ensures in
     rw (
       c.args.body.known.first,
       value c.in_ok-share.ensures,
       (principals g.In_ok-principal).list,
       (interests g.In_ok-interest).list,
-      c.in-Some.ensures.0,
-      lt-ltb _ _ c.in-Some.ensures.1,
+      f.0,
+      lt-ltb _ _ f.1,
     )
     (ap (refused InterestAlone) (omega arith))
 
@@ -70,7 +72,7 @@ returns-then-principal-interest-gt1000000000 c =
       value c.in_ok-share.ensures,
       (principals g.In_ok-principal).list,
       (interests g.In_ok-interest).list,
-      c.in_default.ensures,
+      no_first _ _ c.in_default.ensures,
       lt-ltb _ _ over,
     )
 
@@ -85,6 +87,6 @@ returns c =
       value c.in_ok-share.ensures,
       (principals g.In_ok-principal).list,
       (interests g.In_ok-interest).list,
-      c.in_default.ensures,
+      no_first _ _ c.in_default.ensures,
       le-ltb _ _ within,
     )
