@@ -16,14 +16,27 @@ fn cannot_widen(stored: usize, report: usize) -> bool
     stored != STORED_FIGURES || report < FIGURES
 }
 
+// Number by number: of the library's `copy_from_slice` the compiler would make a call of `memmove`, which whoever links the archive would have to supply.
+fn copy(numbers: &[i64], cells: &mut [i64])
+    requires { length numbers.now ≡ length cells.old }
+    ensures { cells.new ≡ numbers.now }
+{
+    for (k, cell) in cells.iter_mut().enumerate() {
+        *cell = numbers[k];
+    }
+}
+
 // The list and the room are as long as the one report and the other.
 fn write_widened(stored: &[i64], report: &mut [i64])
     requires { (length stored.now ≡ figures stored_currencies) × (length report.old ≡ figures currencies) }
     ensures { report.new ≡ Stored.widened stored_currencies currencies stored.now }
 {
-    report[0..STORED_CHANGES].copy_from_slice(&stored[0..STORED_CHANGES]);
+    copy(&stored[0..STORED_CHANGES], &mut report[0..STORED_CHANGES]);
     report[STORED_CHANGES..CHANGES].fill(0);
-    report[CHANGES..FIGURES].copy_from_slice(&stored[STORED_CHANGES..STORED_FIGURES]);
+    copy(
+        &stored[STORED_CHANGES..STORED_FIGURES],
+        &mut report[CHANGES..FIGURES],
+    );
 }
 
 // A list of another length than a stored report has and a room that is too small are turned down alike.

@@ -5,6 +5,6 @@ use Rattle.stored.proofs.write_widened.Goals as goal
 pub returns : goal.returns
 returns c =
     parts-widened c.args.stored.now c.args.report.now c.requires.0 c.requires.1
-    c.copy_from_slice.ensures.after
+    c.copy.ensures
     (c.fill.ensures.after (λ y e. e))
-    c.copy_from_slice-2.ensures.after
+    c.copy-2.ensures
