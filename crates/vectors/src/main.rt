@@ -7,8 +7,7 @@ mod show;
 
 use cases::{read_case, skip};
 use input::read_input;
-use paper::{CELLS, FIGURES};
-use rooms::show_room;
+use rooms::{show_ledger_room, show_report_room};
 use show::{say, show};
 
 const LONGEST: usize = 65535;
@@ -38,11 +37,6 @@ fn main(rt: HostRuntime) {
     if run_cases(&rt, &room[..length]).is_none() {
         say(&rt, b"bad text\n");
     }
-    show_room(&rt, b"report room 201\n", &mut [0; 201], &mut [0; CELLS]);
-    show_room(
-        &rt,
-        b"ledger room 4,255\n",
-        &mut [0; FIGURES],
-        &mut [0; 4255],
-    );
+    show_report_room(&rt);
+    show_ledger_room(&rt);
 }
