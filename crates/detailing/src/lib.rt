@@ -1,7 +1,7 @@
 // What the detail program prints for its input: the report's lines, then what stands behind them. Everything of it but the reading and the writing.
 #![tactic(auto)]
 
-ghost use Rattle.std.specs.Prelude.{List, ◌*◌, ◌++◌, ◌≡◌, ◌≤◌, length, drop};
+ghost use Rattle.std.specs.Prelude.{List, ◌*◌, ◌+◌, ◌++◌, ◌≡◌, ◌≤◌, length, drop};
 ghost use Rattle.paper.specs.Refusals.{accepted};
 ghost use Rattle.paper.specs.Records.{Record, currencies, kind_count};
 ghost use Rattle.paper.specs.Ledger.{cells};
@@ -51,7 +51,8 @@ fn behind_of<'a>(working: &'a Working, counts: &'a [i64], curved: u32) -> Behind
 fn put_behind(book: &[u8], standing: &Standing, page: &mut Page<'_>)
     requires book_len_bound { length book.now ≤ longest_book }
     requires room { HasRoom longest_behind page.old }
-    ensures { (kept : List Record) → of_records book.now ≡ accepted kept → Adds (behind_kept book.now kept standing.now.measure.0 standing.now.tier1.0) page.old page.new × (length (behind_kept book.now kept standing.now.measure.0 standing.now.tier1.0) ≤ longest_behind) }
+    ensures upper_bound { page.new.written ≤ page.old.written + longest_behind }
+    ensures adds { (kept : List Record) → of_records book.now ≡ accepted kept → Adds (behind_kept book.now kept standing.now.measure.0 standing.now.tier1.0) page.old page.new × (length (behind_kept book.now kept standing.now.measure.0 standing.now.tier1.0) ≤ longest_behind) }
 {
     let mut ledger = [0i64; CELLS];
     let mut counts = [0i64; COUNTS];
