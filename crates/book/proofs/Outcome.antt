@@ -1,5 +1,5 @@
 -- What the entry function answers, way out by way out.
-use Prim.Native.Nat.{ℕ, suc, ◌≤◌, ◌<◌}
+use Prim.Native.Nat.{ℕ, suc, ◌*◌, ◌≤◌, ◌<◌}
 use mathlib.Core.Bool.{Bool, true, false, not, ◌&&◌, ◌||◌}
 use mathlib.Core.List.{List, [], ◌++◌, append-nil}
 use mathlib.Core.Path.{◌≡◌, refl, sym, ap, ◌∙◌}
@@ -16,6 +16,7 @@ use Rattle.paper.specs.declared.Refusal.TheVariants.{BadCapital, BookTooLong, Ro
 use Rattle.paper.specs.declared.Fault.{Fault}
 use Rattle.paper.specs.Refusals.{number_of, Checked, accepted, refused, ◌>>◌, unless, answer_of}
 use Rattle.paper.specs.Records.{Record, currencies}
+use Rattle.paper.specs.Flow.{scenarios, shocked}
 use Rattle.paper.specs.Ledger.{totals, curved, cells, figures, ledger_of}
 use Rattle.paper.specs.TurnedDown.{lacks_curve, bad_capital, longest_book, book_too_long, room_too_small}
 use Rattle.paper.specs.Verdict.{report_of}
@@ -24,8 +25,9 @@ use Rattle.paper.proofs.Checks.{Known, known_of, cause-of, unless-known, through
 use Rattle.paper.proofs.Walk.{Good, records-good}
 use Rattle.arrays.specs.Masks.{curved_by, MaskOf}
 use Rattle.arrays.specs.Rooms.{totals_by}
-use Rattle.arrays.specs.Arrays.{Arrays, arrays_of, Sized}
+use Rattle.arrays.specs.Arrays.{Arrays, arrays_as, arrays_of, Sized}
 use Rattle.arrays.proofs.Bounds.{arrays-sized}
+use Rattle.arrays.proofs.More.{nothing-kept}
 use Rattle.valuation.specs.Bounds.{Bounds}
 use Rattle.valuation.proofs.KeptRecords.{kept-bounds, kept-report}
 use Rattle.load.specs.Walk.{kept_in}
@@ -62,6 +64,13 @@ one-mask curves curves' kept kept' e f p =
     let mask : curves ≡ curves' = cc in
     let same : kept ≡ kept' = cc in
     rw (sym mask, sym same) p
+
+-- ---- before the first record
+
+-- the ledger is cleared, and the other arrays are nil
+pub nothing_yet : (ledger before : List ℤ) → length before ≡ cells currencies → ledger ≡ replicate (length before) (pos 0)
+    → arrays_as ledger (replicate (cells currencies) (pos 0)) (replicate (shocked * currencies) (pos 0)) (replicate (scenarios * currencies) 0) (replicate (shocked * currencies) 0) ≡ arrays_of []
+nothing_yet ledger before long e = rw (e, long) (sym nothing-kept)
 
 -- ---- what is known of the records of a book that is loaded
 

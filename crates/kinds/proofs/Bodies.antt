@@ -5,11 +5,12 @@ use mathlib.Core.List.{List}
 use mathlib.Core.Path.{◌≡◌, refl, sym, ap, ◌∙◌}
 use native.Mathlib.Nat.{add-zero}
 use lib.IntN.{ℤ, pos, nat_abs, ◌+ℤ◌, +ℤ_idr}
+use Rattle.std.specs.Prelude.{Err}
 use Rattle.laws.proofs.Joins.{joined-none}
-use Rattle.paper.specs.declared.Refusal.TheVariants.{OverLimit}
+use Rattle.paper.specs.declared.Refusal.TheVariants.{UnknownKind, OverLimit}
 use Rattle.paper.specs.Ladder.{buckets}
 use Rattle.paper.specs.Flow.{flow, adds, gives, magnitude}
-use Rattle.paper.specs.Refusals.{Checked, accepted, refused, ◌>>=◌, unless}
+use Rattle.paper.specs.Refusals.{Checked, accepted, refused, ◌>>=◌, unless, fault}
 use Rattle.paper.specs.Records.{Record, body_length, currencies}
 use Rattle.paper.specs.Ledger.{SoFar}
 use Rattle.paper.specs.TurnedDown.{over_limit}
@@ -28,7 +29,7 @@ use Rattle.posting.specs.Parts.{Taken, FlowParts}
 use Rattle.slotting.specs.Parts.{OptionParts, RateParts}
 use Rattle.posting.specs.Answers.{into, flows_fit, FlowsTaken, options_fit, OptionTaken, CurveTaken}
 use Rattle.kinds.specs.Bodies.{BodyTaken}
-use Rattle.paper.proofs.KindTable.{Row}
+use Rattle.paper.proofs.KindTable.{Row, NoneOf, none-decoded}
 
 -- ---- a part with nothing joined stays
 
@@ -146,3 +147,9 @@ module _ {has : Bool} {p : Arrays} (h : PartsHold has p) where
 
   pub rate-parts : RateParts has p.rates
   rate-parts = record { long = h.sized.rates-long; bare = h.bare }
+
+-- no such kind
+pub unknown-body : (has : Bool) (p : Arrays) (kind : ℕ) (body : List ℕ) → NoneOf kind
+    → BodyTaken (admitted currencies (so_far_in has p.sizes p.option_sizes) kind body) p (Err (fault UnknownKind 0)) p
+unfolding admitted ◌>>=◌
+unknown-body has p kind body f = rw (none-decoded currencies (λ _. has) kind body f) (record { answered = refl; parts = refl })

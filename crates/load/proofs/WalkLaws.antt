@@ -12,7 +12,7 @@ use Rattle.paper.specs.Records.{Record, currencies}
 use Rattle.paper.specs.Book.{record_at}
 use Rattle.arrays.specs.declared.masks.Masks.{Masks}
 use Rattle.arrays.specs.Masks.{marked}
-use Rattle.arrays.specs.Arrays.{Arrays, arrays_of}
+use Rattle.arrays.specs.Arrays.{Arrays, Sized, arrays_of}
 use Rattle.lending.specs.Records.{tested}
 use Rattle.reader.specs.declared.Reader.{Reader}
 use Rattle.reader.specs.declared.Found.{Found}
@@ -26,6 +26,20 @@ use Rattle.load.proofs.Invariant.{Walking, all-of-them, ended, stops, stops-with
 pub record Reading (book : List ℕ) (a : Arrays) (r : Reader) (m : Masks) : Type 0 where
   pub own : r.book.now ≡ book
   pub walking : Walking book a r.at m
+
+abbrev pub AsLong : Arrays → Arrays → Type 0
+AsLong x y =
+    (length x.ledger ≡ length y.ledger) × ((length x.rates ≡ length y.rates) × ((length x.add_ons ≡ length y.add_ons)
+    × ((length x.sizes ≡ length y.sizes) × ((length x.option_sizes ≡ length y.option_sizes) × Unit {0}))))
+
+pub as_long : {n : ℕ} {x y z : Arrays} → z ≡ x → Sized n x → Sized n y → AsLong z y
+as_long e p q =
+    let ledger = p.ledger-long ∙ sym q.ledger-long in
+    let rates = p.rates-long ∙ sym q.rates-long in
+    let add_ons = p.add_ons-long ∙ sym q.add_ons-long in
+    let sizes = p.sizes-long ∙ sym q.sizes-long in
+    let option_sizes = p.option_sizes-long ∙ sym q.option_sizes-long in
+    rw e (ledger, (rates, (add_ons, (sizes, (option_sizes, tt)))))
 
 ok-once : (m n : Masks) → ◌≡◌ {A = Result Masks Fault} (Ok m) (Ok n) → m ≡ n
 ok-once m n e = cc

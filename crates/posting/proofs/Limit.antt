@@ -4,9 +4,9 @@ use mathlib.Core.Bool.{Bool, true, false, not}
 use mathlib.Core.List.{List}
 use mathlib.Core.Path.{◌≡◌, refl, sym, ap, ap₂, ◌∙◌}
 use native.Mathlib.Omega.{arith}
-use lib.IntN.{ℤ, pos}
+use lib.IntN.{ℤ, pos, ◌+ℤ◌}
 use lib.ListN.{length, get_or, replicate, get_or-replicate}
-use borrow.Author.Tests.{lt-ltb, le-ltb}
+use borrow.Author.Tests.{lt-ltb, le-ltb, ltb-false, not-true}
 use Rattle.std.proofs.lemmas.List.{get_or_default}
 use Rattle.std.proofs.lemmas.Slice.Zip.{length-zip, get_or-zip}
 use Rattle.std.specs.Bool.{MatchBool}
@@ -14,7 +14,7 @@ use Rattle.std.specs.List.{zip, AllWithin, HoldsAt}
 use Rattle.std.specs.Prelude.{Ok, Err}
 use Rattle.laws.specs.Tests.{◌below◌}
 use Rattle.laws.proofs.Joins.{joined-ext}
-use Rattle.laws.proofs.Tests.{all_of, all-not, all-ext}
+use Rattle.laws.proofs.Tests.{all_of, all-at, all-not, all-ext}
 use Rattle.paper.specs.declared.Fault.{Fault}
 use Rattle.paper.specs.Scales.{billion}
 use Rattle.paper.specs.Flow.{scenarios, sided}
@@ -30,6 +30,12 @@ module _ (sums : List ℕ) (n : ℕ) where
   unfolding room_for
   room-not more j l h =
       all-not (λ i. not (billion below get_or sums i 0 + more i)) 0 n j (omega arith) (omega arith) (ap not (lt-ltb billion (get_or sums j 0 + more j) h))
+
+  pub room_at : (more : ℕ → ℕ) → room_for more sums n ≡ true → (j : ℕ) → j < n → get_or sums j 0 + more j ≤ billion
+  unfolding room_for
+  room_at more t j l =
+      ltb-false billion (get_or sums j 0 + more j)
+      (not-true _ (all-at (λ i. not (billion below get_or sums i 0 + more i)) 0 n t j (omega arith) (omega arith)))
 
   pub room-ext : (f g : ℕ → ℕ) → ((j : ℕ) → j < n → f j ≡ g j) → room_for f sums n ≡ room_for g sums n
   unfolding room_for
@@ -97,6 +103,18 @@ module _ (amounts : ℕ → ℕ) (side : ℕ) (own : ℕ → ℕ) {more sizes si
 
   pub entered-not : {f : Fault} → answer ≡ Err f → result ≡ Err f → section' ≡ section → Entered amounts side own section sizes result section' sizes'
   entered-not t r e = entered false (failed _ answer (answer-is own scenarios long sized test) t) (t ∙ sym r) e
+
+-- flows and magnitudes that are the same number by number
+pub entered-ext : (side : ℕ) (amounts amounts' more more' : ℕ → ℕ) {section section' : List ℤ} {sizes sizes' : List ℕ} {answer : Taken}
+    → ((j : ℕ) → amounts j ≡ amounts' j) → ((i : ℕ) → more i ≡ more' i)
+    → Entered amounts side more section sizes answer section' sizes' → Entered amounts' side more' section sizes answer section' sizes'
+entered-ext side amounts amounts' more more' {section = section} {sizes = sizes} flows-are sizes-are h =
+    let same : room_for more sizes scenarios ≡ room_for more' sizes scenarios = room-ext sizes scenarios more more' (λ i _. sizes-are i) in
+    record {
+      answered = h.answered ∙ ap answer_of same;
+      cells = h.cells ∙ ap₂ (λ (b : Bool) (l : List ℤ). only_if b l section) same (joined-ext ◌+ℤ◌ (pos 0) section _ _ (λ j _. ap (λ (n : ℕ). sided side (pos n)) (flows-are j)));
+      sums = h.sums ∙ ap₂ (λ (b : Bool) (l : List ℕ). only_if b l sizes) same (joined-ext ◌+◌ 0 sizes _ _ (λ i _. sizes-are i));
+    }
 
 -- one size in every scenario
 pub same_size : (size i : ℕ) → i < scenarios → size ≡ get_or (replicate 7 size) i 0

@@ -3,7 +3,7 @@ use Prim.Native.Nat.{ℕ, ◌+◌}
 use mathlib.Core.Bool.{Bool, true, false, not}
 use mathlib.Core.List.{List}
 use mathlib.Core.Logic.{⊎_elim}
-use mathlib.Core.Path.{◌≡◌, refl}
+use mathlib.Core.Path.{◌≡◌, refl, sym, ap}
 use native.Mathlib.Omega.{arith}
 use borrow.Author.Tests.{not-false, leb-true}
 use lib.ListN.{length}
@@ -18,6 +18,10 @@ use Rattle.paper.specs.TurnedDown.{unknown_edition, code_not_listed}
 use Rattle.paper.specs.Fields.{byte, three, listed_at}
 use Rattle.fields.specs.Answers.{as_it_is}
 use Rattle.published.specs.Lines.{listed_in}
+
+-- an arm's line is that of its key
+pub line : (list : List Entry) {code key : ℕ} → code ≡ key → listed_in list key ≡ listed_in list code
+line list e = ap (λ (k : ℕ). listed_in list k) (sym e)
 
 -- the edition has this list: it has the code, or not
 pub looked : (body : List ℕ) (o edition : ℕ) (list : List Entry) → byte body o ≡ edition → unknown_edition edition ≡ false → list_of edition ≡ list

@@ -17,6 +17,7 @@ use Rattle.paper.specs.TurnedDown.{unknown_kind, cut_short}
 use Rattle.paper.specs.Fields.{byte, currency_at}
 use Rattle.paper.specs.Book.{placed, admitted, record_at, next_at}
 use Rattle.paper.proofs.Checks.{known_of, cause-of, chain, unless-known, inside-most}
+use Rattle.paper.proofs.Ranges.{currency-known}
 use Rattle.paper.proofs.Walk.{admitted-inside}
 use Rattle.paper.proofs.KindTable.{first_field}
 use Rattle.arrays.specs.declared.masks.Masks.{Masks}
@@ -86,6 +87,10 @@ all_said = result_of (λ r. tt)
 pub body-long : (kind : Kind) → 0 < body_length (kind_number kind)
 unfolding unknown_kind
 body-long kind = omega (arith, eqb-false (body_length (kind_number kind)) 0 (number-known kind))
+
+-- a bad currency is told one byte into the record
+pub bad-inside : (body : List ℕ) (f : Fault) → currency_at currencies body 0 ≡ refused f.cause f.place → f.place ≤ 1
+bad-inside body f e = inside-most (cause-of (currency-known body 0 (omega arith) currencies) f.cause f.place e)
 
 -- reading a body asks nothing of the currencies used
 pub curves-hold : {m : Masks} {a : Arrays} → Holding m a → Holding (record { used = 0; curved = m.curved }) a
